@@ -1,7 +1,7 @@
 -- Laws of binary digits, and of the reversal of digits.
-use Rattle.std.proofs.Common.{◌≡◌, ℕ, zero, suc, ◌+◌, ◌-◌, ◌*◌, ◌/◌, ◌%◌, ◌^◌, ◌<◌, ◌≤◌, refl, sym, ◌∙◌, ap, arith, bit_and, bit_or}
+use Rattle.std.proofs.Common.{◌≡◌, ℕ, zero, suc, ◌+◌, ◌-◌, ◌*◌, ◌/◌, ◌%◌, ◌^◌, ◌<◌, ◌≤◌, refl, sym, ◌∙◌, ap, arith}
 use Rattle.std.proofs.Math.Nat.{pow-suc, div-one, mod-eq_of_lt, mul-mod_left}
-use Rattle.std.proofs.lemmas.Nat.{pow_pos, pow-add, shr_split, shr-shr, mod_below, div-mul-add, mod-mul-add, mul-add-lt, and_mask, shl_whole, or_shifted, shl-shr}
+use Rattle.std.proofs.lemmas.Nat.{pow_pos, pow-add, shr_split, shr-shr, mod_below, div-mul-add, mod-mul-add, mul-add-lt, shl-shr}
 use Rattle.std.proofs.lemmas.Nat.Bits.{bit_at-lt, bit_at-suc, bit_at-zero, bit_at_cat_low, same_from_bits_below}
 use Rattle.p3_util_kernels.specs.Digits.{bit, rev, rev_word}
 use Rattle.p3_util_kernels.specs.Sums.{sum_below}
@@ -108,32 +108,6 @@ pub rev-around : (q d a m y : ℕ) → d ≤ 1 → m < 2 ^ d → y < 2 ^ q
 rev-around q d a m y few middle h =
     let split : 2 ^ (d + q) ≡ 2 ^ d * 2 ^ q = pow-add 2 d q in
     rw (rev-parts q (d + q) a (m * 2 ^ q + y) (middle-below q d m y middle h), rev-parts d q m y h, rev-one d m few middle, split) (grind arith)
-
--- The two halves of a number, each reversed, are put together in the other order, as code for
--- integers of w bits does it.
-abbrev joined_halves : (w k x : ℕ) → ℕ
-joined_halves w k x = bit_or (rev k (bit_and x (2 ^ k - 1)) * 2 ^ k % 2 ^ w) (rev k (x / 2 ^ k))
-
-pub rev-halves : (w k x : ℕ) → k + k ≤ w → rev (k + k) x ≡ joined_halves w k x
-rev-halves w k x fits =
-    let low : rev k (x % 2 ^ k) ≡ rev k x = rev-mod k x in
-    rw (
-      and_mask x k,
-      low,
-      shl_whole (rev k x) k k w (rev-lt k x) fits,
-      or_shifted (rev k x) k (rev k (x / 2 ^ k)) (rev-lt k (x / 2 ^ k)),
-    )
-    (rev-add k k x)
-
--- the same for 16, 32 and 64 digits, at which the code does this
-pub rev_16 : (x : ℕ) → rev 16 x ≡ joined_halves 16 8 x
-rev_16 x = rev-halves 16 8 x (omega arith)
-
-pub rev_32 : (x : ℕ) → rev 32 x ≡ joined_halves 32 16 x
-rev_32 x = rev-halves 32 16 x (omega arith)
-
-pub rev_64 : (x : ℕ) → rev 64 x ≡ joined_halves 64 32 x
-rev_64 x = rev-halves 64 32 x (omega arith)
 
 -- `rev_word 0` reverses all 64 digits, and for other numbers of digits `rev_word` is `rev`
 pub rev_word-zero : (x : ℕ) → rev_word 0 x ≡ rev 64 x

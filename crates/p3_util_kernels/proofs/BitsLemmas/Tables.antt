@@ -1,5 +1,5 @@
 -- The tables in the source hold what their comments say, checked entry by entry.
-use Rattle.std.proofs.Common.{◌≡◌, ℕ, zero, suc, ◌+◌, ◌*◌, ◌/◌, ◌%◌, ◌^◌, ◌<◌, ◌≤◌, nat_lt, nat_le, ltb-true, leb-true, Bool, true, ◌&&◌, ◌==◌, get_or, bit_and, bit_or, subst, arith, inl, inr, eqb-true, refl, sym}
+use Rattle.std.proofs.Common.{◌≡◌, ℕ, zero, suc, ◌+◌, ◌^◌, ◌<◌, ◌≤◌, nat_lt, nat_le, ltb-true, leb-true, Bool, true, ◌&&◌, ◌==◌, get_or, subst, arith, inl, inr, eqb-true, refl}
 use Rattle.std.proofs.lemmas.Bool.{cases_lt, and_parts}
 use Rattle.std.proofs.Math.Nat.{pow-le-pow_right}
 use Rattle.p3_util_kernels.specs.Digits.{rev}
@@ -57,15 +57,5 @@ exponent_bound top h =
 pub reversed_six : (x : ℕ) → x < 64 → get_or REVERSED_SIX x 0 ≡ rev 6 x
 unfolding all_below rev sum_below
 reversed_six x h = eqb-true _ _ (all_below-at (λ x. get_or REVERSED_SIX x 0 == rev 6 x) 64 x refl h)
-
--- a byte put together from its eight digits, each moved to its place in the reversed byte
-abbrev digits_moved : ℕ → ℕ
-digits_moved x =
-    bit_or (bit_or (bit_or (bit_or (bit_or (bit_or (bit_or (bit_and x 1 * 128 % 256) (bit_and x 2 * 32 % 256)) (bit_and x 4 * 8 % 256))
-    (bit_and x 8 * 2 % 256)) (bit_and x 16 / 2)) (bit_and x 32 / 8)) (bit_and x 64 / 32)) (x / 128)
-
-pub reversed_byte : (x : ℕ) → x < 256 → rev 8 x ≡ digits_moved x
-unfolding all_below rev sum_below
-reversed_byte x h = sym (eqb-true _ _ (all_below-at (λ x. digits_moved x == rev 8 x) 256 x refl h))
 
 pub ruleset powers = (powers_of_three-at, three-fits, three-apart)

@@ -1,11 +1,11 @@
-//! Reverses the binary digits of an integer by halves: the two halves change places, and each half
-//! is reversed in the same way, down to bytes.
+//! Reverses the binary digits of an integer by halves: the two halves change places, then the two
+//! halves of each half, and so on, down to single digits.
 //!
 //! LLVM compiles this to one instruction on ARM, and to a byte swap and three rounds of masks and
 //! shifts on x86-64. For std's `reverse_bits`, Rattle's compilers make a loop over single digits
 //! instead, which takes about 20 ns for each call.
 
-ghost use Rattle.std.specs.Prelude.{◌≡◌, ℕ, ◌^◌, ◌<◌, ◌≤◌, ◌%◌};
+ghost use Rattle.std.specs.Prelude.{◌≡◌, ℕ, ◌*◌, ◌/◌, ◌^◌, ◌<◌, ◌≤◌, ◌%◌, bit_and, bit_or};
 ghost use Rattle.p3_util_kernels.specs.Digits.{rev, rev_word};
 ghost use Rattle.p3_util_kernels.specs.Powers.{HasLog2};
 
@@ -39,44 +39,24 @@ pub const fn reverse_bits_len(x: usize, bit_len: usize) -> usize
     reversed >> ((64 - bit_len) % 64)
 }
 
-#[tactic(auto, using(crate::proofs::BitsLemmas::Digits::rev_64))]
-#[inline]
+#[tactic(auto, using(crate::proofs::BitsLemmas::Groups::reversed))]
+#[inline(always)]
 const fn reverse_u64(x: u64) -> u64
     ensures { result ≡ rev 64 x }
 {
-    ((reverse_u32((x & 0xffff_ffff) as u32) as u64) << 32) | (reverse_u32((x >> 32) as u32) as u64)
+    let halves = swap_groups(x, 32, 0x0000_0000_ffff_ffff);
+    let quarters = swap_groups(halves, 16, 0x0000_ffff_0000_ffff);
+    let bytes = swap_groups(quarters, 8, 0x00ff_00ff_00ff_00ff);
+    let nibbles = swap_groups(bytes, 4, 0x0f0f_0f0f_0f0f_0f0f);
+    let pairs = swap_groups(nibbles, 2, 0x3333_3333_3333_3333);
+    swap_groups(pairs, 1, 0x5555_5555_5555_5555)
 }
 
-#[tactic(auto, using(crate::proofs::BitsLemmas::Digits::rev_32))]
-#[inline]
-const fn reverse_u32(x: u32) -> u32
-    ensures { result ≡ rev 32 x }
+/// Exchanges the groups of `width` digits at which `low` has ones with those above them.
+#[inline(always)]
+const fn swap_groups(x: u64, width: u32, low: u64) -> u64
+    requires { width < 64 }
+    ensures { result ≡ bit_or (bit_and x low * 2 ^ width % 2 ^ 64) (bit_and (x / 2 ^ width) low) }
 {
-    ((reverse_u16((x & 0xffff) as u16) as u32) << 16) | reverse_u16((x >> 16) as u16) as u32
-}
-
-#[tactic(auto, using(crate::proofs::BitsLemmas::Digits::rev_16))]
-#[inline]
-const fn reverse_u16(x: u16) -> u16
-    ensures { result ≡ rev 16 x }
-{
-    ((reverse_u8((x & 0xff) as u8) as u16) << 8) | reverse_u8((x >> 8) as u8) as u16
-}
-
-/// Reverses a byte digit by digit. If halves went down to single digits instead, the compiler would
-/// make the same instructions, but it would take seven times as long to evaluate a constant table
-/// of reversed numbers.
-#[tactic(auto, using(crate::proofs::BitsLemmas::Tables::reversed_byte))]
-#[inline]
-const fn reverse_u8(x: u8) -> u8
-    ensures { result ≡ rev 8 x }
-{
-    ((x & 0x01) << 7)
-        | ((x & 0x02) << 5)
-        | ((x & 0x04) << 3)
-        | ((x & 0x08) << 1)
-        | ((x & 0x10) >> 1)
-        | ((x & 0x20) >> 3)
-        | ((x & 0x40) >> 5)
-        | (x >> 7)
+    ((x & low) << width) | ((x >> width) & low)
 }
