@@ -63,8 +63,9 @@ case $profile in
     *) echo "unknown profile $profile: bench/run --help lists them" >&2 && exit 2 ;;
 esac
 package_level=("${level[@]}")
-[ "$profile" != dependencies ] || package_level=("${dev[@]}" -C opt-level=3)
-[ "$profile" != lines ] || package_level=(-C codegen-units=256 -C opt-level=3)
+case $profile in
+    dependencies | lines) package_level=("${dev[@]}" -C opt-level=3) ;;
+esac
 
 # building WHAT: says on standard error what is built now.
 building() {
