@@ -26,6 +26,11 @@ pub mod slices {
                 unsafe { &*self.first }
             }
 
+            /// The same, by another cast.
+            pub fn transmuted(&self) -> &'a T {
+                unsafe { core::mem::transmute(self.first) }
+            }
+
             /// An address that may lie outside of the list.
             pub fn outside(&self, i: usize) -> *mut T {
                 unsafe { self.first.add(i) }
@@ -42,9 +47,37 @@ pub mod slices {
             unsafe { from.cast::<u64>().read_unaligned() }
         }
 
+        /// A length that may have unwritten bytes.
+        pub fn length(from: *const u8) -> usize {
+            move_part::<usize>(from.cast::<usize>())
+        }
+
+        fn move_part<P>(from: *const P) -> P {
+            unsafe { from.read_unaligned() }
+        }
+
+        /// Items that are moved by references.
+        pub fn moved<T>(item: &mut T, other: T, list: &mut &mut [T]) -> T {
+            core::mem::take(list);
+            core::mem::replace(item, other)
+        }
+
+        /// An address that may not be aligned. In the MIR, it is the tenth value.
+        #[rustfmt::skip]
+        pub fn tenth(_: (), _: (), _: (), _: (), _: (), _: (), _: (), _: (), _: (), from: *const MaybeUninit<u64>) -> MaybeUninit<u64> {
+            unsafe { *from }
+        }
+
         /// Assembly that says that it touches no memory, though it does.
         pub fn hidden(from: *const u8) {
             unsafe { core::arch::asm!("/* {} */", in(reg) from, options(nomem, nostack)) }
+        }
+
+        /// Assembly that says that it changes no memory, though it does.
+        pub fn hides_a_store(to: *const u8) -> usize {
+            let done: usize;
+            unsafe { core::arch::asm!("/* {} {} */", in(reg) to, out(reg) done, options(pure, readonly, nostack)) }
+            done
         }
     }
 }
