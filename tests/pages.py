@@ -22,6 +22,24 @@ ELSEWHERE = {"rust/CHANGELOG.md", "docs/TRIED.md", "docs/DIFFERENCES.md"}
 LIBRARIES = "crates/p3_util(_kernels|_c|_run)?/"
 TABLE_IS_ABOUT = "rust/|" + LIBRARIES
 TABLE_ROW = r"^\| (`[A-Z_`, ]+`) \| ([\d, ^+]+) \| `([^`]+)` \|.*$"
+# Where CONTRIBUTING says that a public function of the kernels or of p3_util goes, and those that do not belong there, such as
+# forms for holders, preconditions, and what the package does not have.
+FORMS = r"\w+_(?:on|counted|short|long)|fits_\w+|"
+PROVED = r"is_power_of_three|butterfly_\w+|flat_len|as_base_slice(?:_mut)?|\w+_(?:to|from)_base|(?:de)?serialize"
+SMALL = r"|indices_arr|branch_hint|assert_clone|pretty_name"
+WHERE = {
+    "crates/p3_util/src/lib.rt": r"\w*transpose\w*|fits_(?:matrix|square)|butterfly_\w+|(?:de)?serialize",
+    "crates/p3_util_callers/src/": r"log2_ceil_u64|butterfly_\w+" + SMALL,
+    "crates/p3_util_vectors/src/": "transpose_square_counted",
+    "crates/p3_util_c/src/": FORMS + PROVED + r"|log2_ceil_u64|checked_\w+|reverse_bits|\w+_chunks\w*|zip_eq" + SMALL,
+    "rust/src/lib.rs": PROVED,
+    "rust/tests/package/": PROVED + r"|transpose_source_region_(?:on|counted)",
+    "rust/overlay/src/": FORMS + PROVED,
+    "rust/README.md": FORMS + PROVED,
+    "bench/src/": FORMS + PROVED + SMALL,
+    "release/users/": FORMS + PROVED,
+    "docs/CALLING.md": r"log2_(?:ceil|floor)_\w+|checked_\w+|butterfly_\w+|(?:de)?serialize" + SMALL,
+}
 FILE = r"[\w.-]+(/[\w.-]+)+/?|[\w-]+\.(md|rt|antt|sh|py|rs|h|c|tsv|svg|txt|toml)"
 
 
@@ -185,12 +203,15 @@ def public_functions():
                 yield path, None, outer
 
 
+@functools.cache
+def words(pattern):
+    """The words of the files whose paths begin like this."""
+    return {word for path in tracked if re.match(pattern, path) for word in re.findall(r"\w+", read(path))}
+
+
 def check_functions():
     """Each public function is in a test of p3_util_vectors or of the package. If it promises anything, MODEL has it, or the
-    type that it is a method of. If it has a precondition, a proved caller has it."""
-    def words(pattern):
-        return {word for path in tracked if re.match(pattern, path) for word in re.findall(r"\w+", read(path))}
-
+    type that it is a method of. If it has a precondition, a proved caller has it. If it is no method, it is where WHERE says."""
     tests = words(r"crates/p3_util_vectors/src/|rust/(tests|src/.*tests)|tests/unproved/")
     callers, model = words(r"crates/p3_util_callers/src/"), words(r"docs/MODEL\.md")
     for path, owner, function in public_functions():
@@ -201,6 +222,9 @@ def check_functions():
             yield f"{path}: docs/MODEL.md does not say what {name} promises"
         if "requires" in kinds and name not in callers:
             yield f"{path}: no caller in crates/p3_util_callers has {name}, which has a precondition"
+        for where in (where for where, others in WHERE.items() if not owner and not re.fullmatch(others, name)):
+            if name not in words(where):
+                yield f"{where} has no {name}, which is in {path}. See CONTRIBUTING's table, and WHERE in tests/pages.py"
 
 
 def check_specs():
