@@ -10,6 +10,7 @@ use crate::kernels::reverse::fits_rows;
 use crate::kernels::transpose::fits_matrix;
 use holders::{SliceItems, SliceSource};
 
+mod by_index;
 #[cfg(not(feature = "checked"))]
 mod by_size;
 mod by_type;
@@ -129,5 +130,4 @@ pub fn transpose<T: Copy + Send + Sync>(input: &[T], output: &mut [T], width: us
 }
 
 #[cfg(test)]
-#[cfg_attr(not(feature = "checked"), allow(unsafe_code))]
 mod tests;

@@ -1,6 +1,7 @@
 //! Kernels on holders of slices, compiled for each type of item. This file calls kernels, and trusts that the precondition
 //! of each was checked.
 
+use super::by_index::{ByIndex, Indices};
 use super::choice::{Choice, LIMITS, LONG_BYTES, ShortChoice, choice_of, short_choice_of, side_of, strips_of};
 #[cfg(feature = "checked")]
 use super::choice::{FEW_ITEMS, row_blocks_of};
@@ -105,44 +106,6 @@ fn order_of<S: PutRegion>(choice: Choice, strips: S) -> Order<S> {
     match choice {
         Choice::Leaves => Order::Leaves(strips),
         _ => Order::Strips(strips),
-    }
-}
-
-/// A list of this length, of which each item is its own index. A build without optimization has copies of an item on the
-/// stack in each function that the item goes through. Large items would fill the stack, and their indices do not.
-#[derive(Clone, Copy)]
-struct Indices(usize);
-
-impl Source for Indices {
-    type Item = usize;
-
-    fn len(&self) -> usize {
-        self.0
-    }
-
-    fn at(&self, i: usize) -> usize {
-        i
-    }
-}
-
-/// Cells that are given the index of an item in a source, and put the item. A kernel puts items of [`Indices`] alone, which are
-/// below the length of the source. No contract says so of a single put, so each index is tested. Long items hide the time.
-struct ByIndex<C, R> {
-    cells: C,
-    source: R,
-}
-
-impl<R: Source, C: Cells<Item = R::Item>> Cells for ByIndex<C, R> {
-    type Item = usize;
-
-    fn len(&self) -> usize {
-        self.cells.len()
-    }
-
-    #[inline(never)]
-    fn put(&mut self, i: usize, from: usize) {
-        assert!(from < self.source.len());
-        self.cells.put(i, self.source.at(from));
     }
 }
 

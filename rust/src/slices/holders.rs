@@ -25,6 +25,8 @@ use crate::kernels::transpose::{Matrix, PutRegion, Region};
 mod bytes;
 mod cache;
 pub(super) mod registers;
+#[cfg(all(test, not(miri)))]
+mod tests;
 
 /// The items of a slice, as places or as cells, for one kernel or for one part.
 ///

@@ -279,5 +279,4 @@ macro_rules! iterators {
 iterators! { TransposeParts TransposePart ReversalParts ReversalPart }
 
 #[cfg(test)]
-#[cfg_attr(not(feature = "checked"), allow(unsafe_code))]
 mod tests;

@@ -75,14 +75,14 @@ impl Cells for Noted {
 }
 
 /// Makes the holder of a list that is tested.
-trait Hold<'a, T> {
+pub(super) trait Hold<'a, T> {
     type Holder: Places<Item = T>;
 
     fn hold(list: &'a mut [T]) -> Self::Holder;
 }
 
 /// The holder that makes single steps.
-struct Singly;
+pub(super) struct Singly;
 
 impl<'a, T: 'a> Hold<'a, T> for Singly {
     type Holder = SliceItems<'a, T>;
@@ -95,7 +95,7 @@ impl<'a, T: 'a> Hold<'a, T> for Singly {
 /// The registers of items of `N` bytes, for items of any type of this size.
 #[cfg(not(feature = "checked"))]
 #[derive(Clone, Copy)]
-struct Of<const N: usize>(Items<N>);
+pub(super) struct Of<const N: usize>(Items<N>);
 
 #[cfg(not(feature = "checked"))]
 impl<T, const N: usize> Register<T> for Of<N>
@@ -129,14 +129,14 @@ impl<T, const N: usize> Paired<T> for Of<N> where Items<N>: Register<Bytes<N>> {
 /// A register that is an item of 16 bytes, of any type of this size.
 #[cfg(not(feature = "checked"))]
 #[derive(Clone, Copy)]
-struct Whole(#[allow(dead_code, reason = "it is only copied")] Vector);
+pub(super) struct Whole(#[allow(dead_code, reason = "it is only copied")] Vector);
 
 #[cfg(not(feature = "checked"))]
 impl<T> Single<T> for Whole {}
 
 /// The holder that transposes squares in registers.
 #[cfg(not(feature = "checked"))]
-struct ByRegisters<D>(D);
+pub(super) struct ByRegisters<D>(D);
 
 #[cfg(not(feature = "checked"))]
 impl<'a, T: 'a, D: Register<T>> Hold<'a, T> for ByRegisters<D> {
@@ -168,6 +168,8 @@ macro_rules! of_each_holder {
         }
     };
 }
+#[cfg(not(feature = "checked"))]
+pub(super) use of_each_holder;
 
 /// The result of a call on the numbers below 6, each as an item of five bytes. For items of this size, std tests that
 /// no place is borrowed twice if debug assertions are on.
@@ -188,7 +190,7 @@ fn exchanges() {
 #[cfg(not(feature = "checked"))]
 #[test]
 fn lists_in_bytes() {
-    fn check<const ITEM: usize, const N: usize>() {
+    fn in_groups<const ITEM: usize, const N: usize>() {
         for len in 0..=20 {
             let mut list = std::vec![[0u8; ITEM]; len];
             let source = SliceSource::new(&list).in_bytes::<N>();
@@ -201,15 +203,15 @@ fn lists_in_bytes() {
             assert_eq!(Places::len(&places), len * ITEM / N, "{len} of {ITEM} by {N}");
         }
     }
-    check::<1, 1>();
-    check::<1, 8>();
-    check::<2, 2>();
-    check::<3, 2>();
-    check::<5, 1>();
-    check::<12, 12>();
-    check::<20, 64>();
-    check::<64, 1>();
-    check::<64, 64>();
+    in_groups::<1, 1>();
+    in_groups::<1, 8>();
+    in_groups::<2, 2>();
+    in_groups::<3, 2>();
+    in_groups::<5, 1>();
+    in_groups::<12, 12>();
+    in_groups::<20, 64>();
+    in_groups::<64, 1>();
+    in_groups::<64, 64>();
 }
 
 #[test]
@@ -506,13 +508,17 @@ fn puts_near_lines<T: Copy + PartialEq>(item: impl Fn(usize) -> T, put: impl Fn(
 }
 
 /// Puts a block by a holder.
-fn put_block<T: Copy, H: for<'a> Hold<'a, T, Holder: Cells<Item = T>>>(cells: &mut [T], source: &[T], block: Block) {
+pub(super) fn put_block<T: Copy, H: for<'a> Hold<'a, T, Holder: Cells<Item = T>>>(
+    cells: &mut [T],
+    source: &[T],
+    block: Block,
+) {
     H::hold(cells).put_block(&SliceSource::new(source), block);
 }
 
 /// Puts a block by a holder that stores whole lines past the caches.
 #[cfg(not(feature = "checked"))]
-fn put_past_caches<T: Copy, D: Register<T>>(cells: &mut [T], source: &[T], block: Block) {
+pub(super) fn put_past_caches<T: Copy, D: Register<T>>(cells: &mut [T], source: &[T], block: Block) {
     let holder = SliceItems::new(cells).in_registers::<D>();
     holder.past_caches(|mut cells| cells.put_block(&SliceSource::new(source), block));
 }
@@ -535,7 +541,7 @@ fn blocks_near_lines() {
 #[cfg(not(feature = "checked"))]
 #[test]
 fn blocks_of_lines() {
-    fn check<T: Copy + Default, D: Register<T>>() {
+    fn streams<T: Copy + Default, D: Register<T>>() {
         let line = 64 / size_of::<T>();
         let mut list = Aligned([T::default(); 600]);
         for (to, height) in (0..=2 * line).flat_map(|to| (line - 2..=3 * line).map(move |height| (to, height))) {
@@ -559,9 +565,9 @@ fn blocks_of_lines() {
             }
         }
     }
-    check::<u32, Pair<Of<4>>>();
-    check::<u64, Pair<Of<8>>>();
-    check::<u128, Two<Whole>>();
+    streams::<u32, Pair<Of<4>>>();
+    streams::<u64, Pair<Of<8>>>();
+    streams::<u128, Two<Whole>>();
 }
 
 /// Whether a matrix of the items that `item` makes is transposed as defined, both by blocks and by the strips that a
@@ -688,15 +694,6 @@ fn shuffles() {
     }
 }
 
-// The two modules with unsafe code are in the folder of the holders, like all of it.
-#[cfg(all(target_os = "linux", not(miri), not(feature = "checked")))]
-#[path = "holders/tests/guarded.rs"]
-mod guarded;
-
-#[cfg(not(any(miri, feature = "checked")))]
-#[path = "holders/tests/handed_over.rs"]
-mod handed_over;
-
 #[cfg(not(feature = "checked"))]
 mod lines;
 
@@ -787,7 +784,7 @@ mod refused {
     #[cfg(not(feature = "checked"))]
     #[test]
     fn runs() {
-        fn check<T: Copy + Default, D: Register<T>>() {
+        fn refuses_runs<T: Copy + Default, D: Register<T>>() {
             let len = size_of::<D::Half>() / size_of::<T>();
             assert_eq!(D::SIDE, len);
             let mut list = [T::default(); 40];
@@ -805,11 +802,11 @@ mod refused {
                 assert_eq!(panics(|| call(&places)), is_outside, "a load of {len} items at {place}");
             }
         }
-        check::<u8, Of<1>>();
-        check::<u16, Pair<Of<2>>>();
-        check::<u32, Pair<Of<4>>>();
-        check::<u64, Pair<Of<8>>>();
-        check::<u128, Two<Whole>>();
+        refuses_runs::<u8, Of<1>>();
+        refuses_runs::<u16, Pair<Of<2>>>();
+        refuses_runs::<u32, Pair<Of<4>>>();
+        refuses_runs::<u64, Pair<Of<8>>>();
+        refuses_runs::<u128, Two<Whole>>();
     }
 
     /// A store past the caches has to be inside the list, and aligned to 16 bytes. In a list of 17 items, only the first of these

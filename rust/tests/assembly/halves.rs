@@ -8,7 +8,7 @@ fn items<const N: usize>() -> [[u64; N]; 4] {
     [1, 2, 3, 4].map(|number| [0x7ff0_0000_0000_0000 + number; N])
 }
 
-fn check<const N: usize>() {
+fn keeps_bits<const N: usize>() {
     let [a, b, c, d] = items::<N>();
     let wanted = [a, c, b, d];
     let (mut list, mut rows, mut columns) = (items(), items(), items());
@@ -21,8 +21,8 @@ fn check<const N: usize>() {
 }
 
 fn main() {
-    check::<1>();
-    check::<3>();
-    check::<7>();
-    check::<9>();
+    keeps_bits::<1>();
+    keeps_bits::<3>();
+    keeps_bits::<7>();
+    keeps_bits::<9>();
 }

@@ -72,12 +72,20 @@ fn short_lengths() {
             assert_eq!(panics(|| assert_eq!(reverse_bits(x, n), wanted)), is_refused, "{x} {n}");
         }
     }
-    fn check<const N: usize>() {
+    fn has_indices<const N: usize>() {
         assert!(indices_arr::<N>().into_iter().eq(0..N), "{N}");
     }
     let of_each_length: [fn(); 10] = [
-        check::<0>, check::<1>, check::<2>, check::<3>, check::<4>, check::<5>, check::<6>, check::<7>, check::<8>,
-        check::<9>,
+        has_indices::<0>,
+        has_indices::<1>,
+        has_indices::<2>,
+        has_indices::<3>,
+        has_indices::<4>,
+        has_indices::<5>,
+        has_indices::<6>,
+        has_indices::<7>,
+        has_indices::<8>,
+        has_indices::<9>,
     ];
     of_each_length.into_iter().for_each(|check| check());
 }

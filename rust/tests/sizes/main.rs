@@ -109,7 +109,7 @@ impl List {
 
 /// Makes a call on the numbered items, once with the list at each offset. Then place `i` has to hold the item with the
 /// number `wanted(i)`, and no byte around the list may have changed.
-fn check(size: usize, len: usize, mut call: impl FnMut(&mut [u8]), wanted: impl Fn(usize) -> usize, name: &str) {
+fn check_bytes(size: usize, len: usize, mut call: impl FnMut(&mut [u8]), wanted: impl Fn(usize) -> usize, name: &str) {
     for offset in 0..8 {
         let mut list = List::new(size, offset, len, |i| i);
         call(list.bytes());
@@ -125,7 +125,7 @@ fn check(size: usize, len: usize, mut call: impl FnMut(&mut [u8]), wanted: impl 
 fn reversals() {
     for of in SIZES {
         for bits in 0..=9 {
-            check(of.size, 1 << bits, of.reverse, |i| reversed(bits, i), "a reversal");
+            check_bytes(of.size, 1 << bits, of.reverse, |i| reversed(bits, i), "a reversal");
         }
     }
 }
@@ -135,7 +135,7 @@ fn rows() {
     for of in SIZES {
         for (bits, width) in [(1, 2), (4, 3), (6, 4), (8, 2), (4, 8), (2, 17), (2, 32)] {
             let wanted = |i: usize| reversed(bits, i / width) * width + i % width;
-            check(
+            check_bytes(
                 of.size,
                 width << bits,
                 |list| (of.reverse_rows)(list, width),
@@ -154,7 +154,7 @@ fn reversals_by_parts() {
         for (bits, width) in [(8, 1), (6, 2), (5, 3)] {
             let wanted = |i: usize| reversed(bits, i / width) * width + i % width;
             let call = |list: &mut [u8]| (of.reverse_in_parts)(list, width, 4);
-            check(of.size, width << bits, call, wanted, "parts of a reversal");
+            check_bytes(of.size, width << bits, call, wanted, "parts of a reversal");
         }
     }
 }
@@ -177,9 +177,9 @@ fn transposes() {
             let (len, wanted) = (width * height, |place| transposed(width, height, place));
             let mut input = List::new(of.size, 3 * parts, len, |i| i);
             let whole = |list: &mut [u8]| (of.transpose)(input.bytes(), list, width, height);
-            check(of.size, len, whole, wanted, "a transpose");
+            check_bytes(of.size, len, whole, wanted, "a transpose");
             let in_parts = |list: &mut [u8]| (of.transpose_in_parts)(input.bytes(), list, width, height, parts);
-            check(of.size, len, in_parts, wanted, "parts of a transpose");
+            check_bytes(of.size, len, in_parts, wanted, "parts of a transpose");
         }
     }
 }

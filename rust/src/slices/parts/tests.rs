@@ -15,7 +15,12 @@ use crate::slices::tests::{Noted, reversed};
 
 /// Runs each part on its own list, which has the numbers below `len`. Checks that part `number` leaves
 /// `wanted(number, place)` at each place, and that no place is changed twice. Returns how many places are changed.
-fn check(len: usize, count: usize, run: impl Fn(&mut Noted, usize), wanted: impl Fn(usize, usize) -> usize) -> usize {
+fn check_parts(
+    len: usize,
+    count: usize,
+    run: impl Fn(&mut Noted, usize),
+    wanted: impl Fn(usize, usize) -> usize,
+) -> usize {
     let mut places = BTreeSet::new();
     for number in 0..count {
         let mut noted = Noted::numbered(len);
@@ -51,7 +56,7 @@ fn check_matrix(width: usize, height: usize, parts: usize, may_cut_rows: bool) {
         if is_inside { input[y * width + x] } else { place }
     };
     let count = |put: &dyn Fn(&mut Noted, usize)| {
-        let puts = check(len, plan.count(), put, wanted);
+        let puts = check_parts(len, plan.count(), put, wanted);
         assert_eq!(puts, len, "{width} by {height} in {parts} parts");
     };
     count(&|noted, number| _ = Columns.put(noted, Matrix::new(source, width, height), plan.region(number)));
@@ -176,7 +181,7 @@ fn patches_of_pairs_of_rows() {
             let row = if is_inside { reversed(digits, row) } else { row };
             row * width + place % width
         };
-        let moved = check(len, plan.count(), exchange, wanted);
+        let moved = check_parts(len, plan.count(), exchange, wanted);
         let all = (0..len).filter(|place| reversed(digits, place / width) != place / width);
         assert_eq!(moved, all.count(), "2^{digits} rows of {width} in {parts} parts");
         let squares = 1 + digits % 2;

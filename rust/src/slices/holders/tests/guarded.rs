@@ -5,8 +5,11 @@
 use std::array::from_fn;
 use std::ptr::null_mut;
 
-use super::*;
-use crate::slices::parts::transpose;
+use super::super::{SliceItems, SliceSource, USES_REGISTERS};
+use crate::kernels::places::{Block, Cells, Places, Source};
+use crate::kernels::registers::{Pair, Register, Two};
+use crate::slices::parts::{TransposePart, transpose};
+use crate::slices::tests::*;
 
 unsafe extern "C" {
     fn mmap(address: *mut u8, len: usize, protection: i32, flags: i32, file: i32, offset: i64) -> *mut u8;
@@ -77,7 +80,7 @@ impl<const N: usize> Runs<N> {
     }
 
     /// Compares the item at each place of a run with the one that was at the place `wanted` in the beginning.
-    fn check(&self, wanted: impl Fn(usize, usize) -> (usize, usize)) {
+    fn has(&self, wanted: impl Fn(usize, usize) -> (usize, usize)) {
         for (run, k) in self.places() {
             let (from, of) = wanted(run, k);
             // SAFETY: this is a place of a run.
@@ -104,21 +107,21 @@ fn steps<const N: usize>() {
     for ends_with_page in [false, true] {
         let mut two = Runs::<N>::new(2, 1, ends_with_page);
         SliceItems::new(two.list()).exchange(0, GAP);
-        two.check(|run, k| (1 - run, k));
+        two.has(|run, k| (1 - run, k));
         SliceItems::new(two.list()).exchange(GAP, 0);
-        two.check(|run, k| (run, k));
+        two.has(|run, k| (run, k));
         let put = SliceSource::new(two.list()).at(GAP);
         SliceItems::new(two.list()).put(0, put);
-        two.check(|_, k| (1, k));
+        two.has(|_, k| (1, k));
 
         for len in (1..=17).chain([33, 100]) {
             let mut runs = Runs::<N>::new(2, len, ends_with_page);
             SliceItems::new(runs.list()).exchange_runs(0, GAP, len);
-            runs.check(|run, k| (1 - run, k));
+            runs.has(|run, k| (1 - run, k));
             SliceItems::new(runs.list())
                 .in_bytes::<1>()
                 .exchange_runs(GAP * N, 0, len * N);
-            runs.check(|run, k| (run, k));
+            runs.has(|run, k| (run, k));
         }
 
         of_each_holder!([u8; N], Holder => squares::<N, Holder>(ends_with_page));
@@ -134,7 +137,7 @@ where
     let row = |number: usize| number * 7 % 16;
     let (x, y) = (from_fn(|r| GAP * row(r)), from_fn(|r| GAP * row(8 + r)));
     H::hold(tiles.list()).exchange_tiles(x, y);
-    tiles.check(|run, k| match (0..16).find(|number| row(*number) == run) {
+    tiles.has(|run, k| match (0..16).find(|number| row(*number) == run) {
         Some(number) if number < 8 => (row(8 + k), number),
         number => (row(k), number.unwrap() - 8),
     });
@@ -148,7 +151,7 @@ where
 
     let mut tile = Runs::<N>::new(8, 8, ends_with_page);
     H::hold(tile.list()).turn_tile(from_fn(|r| GAP * r));
-    tile.check(|run, k| (k, run));
+    tile.has(|run, k| (k, run));
 
     for side in [1, 2, 3, 4, 5, 8, 16] {
         let mut source = Runs::<N>::new(side, side, ends_with_page);
@@ -163,8 +166,8 @@ where
             height,
         };
         H::hold(cells.list()).put_block(&SliceSource::new(source.list()), block);
-        cells.check(|run, k| (k, run));
-        source.check(|run, k| (run, k));
+        cells.has(|run, k| (k, run));
+        source.has(|run, k| (run, k));
     }
     if let 4 | 8 | 16 = N {
         columns_off_a_line::<N>(ends_with_page, put_block::<_, H>);
@@ -191,7 +194,7 @@ fn columns_off_a_line<const N: usize>(ends_with_page: bool, put: impl Fn(&mut [[
             height,
         };
         put(cells.list(), source.list(), block);
-        cells.check(|_, k| match k.checked_sub(to) {
+        cells.has(|_, k| match k.checked_sub(to) {
             Some(row) if row < rows => (row, 0),
             _ => (0, k),
         });
@@ -199,7 +202,6 @@ fn columns_off_a_line<const N: usize>(ends_with_page: bool, put: impl Fn(&mut [[
 }
 
 /// Puts a block of whole cache lines past the caches, and a single column of it, of which each row is read from the column on.
-#[cfg(not(feature = "checked"))]
 fn lines<const N: usize, D: Register<[u8; N]>>(ends_with_page: bool) {
     let rows = 64 / N;
     for cols in [1, rows] {
@@ -215,13 +217,12 @@ fn lines<const N: usize, D: Register<[u8; N]>>(ends_with_page: bool) {
             height,
         };
         put_past_caches::<_, D>(cells.list(), source.list(), block);
-        cells.check(|run, k| (k, run));
-        source.check(|run, k| (run, k));
+        cells.has(|run, k| (k, run));
+        source.has(|run, k| (run, k));
     }
     columns_off_a_line(ends_with_page, put_past_caches::<_, D>);
 }
 
-#[cfg(not(feature = "checked"))]
 #[test]
 fn lines_touch_their_places_alone() {
     for ends_with_page in [false, true].into_iter().filter(|_| USES_REGISTERS) {
@@ -246,7 +247,7 @@ fn transposes_touch_their_lists_alone() {
                     0 => crate::slices::transpose(source.list(), cells.list(), width, height),
                     _ => transpose(source.list(), cells.list(), width, height, 2 * parts).for_each(TransposePart::run),
                 }
-                cells.check(|_, k| (0, transposed(width, height, k)));
+                cells.has(|_, k| (0, transposed(width, height, k)));
             }
         }
     }

@@ -15,12 +15,12 @@ use crate::kernels::transpose::{Order, transpose_matrix};
 
 /// A slice that notes the index of each read.
 #[derive(Clone, Copy)]
-struct Noted<'a, T> {
+struct NotedReads<'a, T> {
     items: &'a [T],
     reads: &'a RefCell<Vec<usize>>,
 }
 
-impl<T: Copy> Source for Noted<'_, T> {
+impl<T: Copy> Source for NotedReads<'_, T> {
     type Item = T;
 
     fn len(&self) -> usize {
@@ -34,11 +34,11 @@ impl<T: Copy> Source for Noted<'_, T> {
 }
 
 /// Calls `call` with `len` items and returns the indices that it reads, in order.
-fn reads<T: Copy + Default + Send + Sync>(len: usize, call: impl FnOnce(&[T], &mut [T], Noted<T>)) -> Vec<usize> {
+fn reads<T: Copy + Default + Send + Sync>(len: usize, call: impl FnOnce(&[T], &mut [T], NotedReads<T>)) -> Vec<usize> {
     let items = std::vec![T::default(); len];
     let mut output = items.clone();
     let reads = RefCell::new(Vec::new());
-    let source = Noted {
+    let source = NotedReads {
         items: &items,
         reads: &reads,
     };
@@ -99,7 +99,7 @@ fn put_by_strips<T: Copy>(output: &mut [T], matrix: Matrix<impl Source<Item = T>
 /// registers. With the feature `checked` no matrix of this test is put by strips.
 #[test]
 fn strips_of_the_parts() {
-    fn check<T: Copy + Default + Send + Sync>(width: usize, height: usize) -> bool {
+    fn uses_shape<T: Copy + Default + Send + Sync>(width: usize, height: usize) -> bool {
         let by_parts = reads::<T>(width * height, |items, output, source| {
             transpose(items, output, width, height, 1).for_each(|part| run_from(part, source));
         });
@@ -117,13 +117,13 @@ fn strips_of_the_parts() {
         by_parts == by_strips(false)
     }
     let has_strips = cfg!(not(feature = "checked"));
-    assert_eq!(check::<u128>(64, 65), has_strips);
-    assert!(!check::<[u64; 4]>(16, 64));
+    assert_eq!(uses_shape::<u128>(64, 65), has_strips);
+    assert!(!uses_shape::<[u64; 4]>(16, 64));
     let of_numbers = [
-        check::<u8>(64, 65),
-        check::<u16>(64, 65),
-        check::<u32>(64, 65),
-        check::<u64>(64, 65),
+        uses_shape::<u8>(64, 65),
+        uses_shape::<u16>(64, 65),
+        uses_shape::<u32>(64, 65),
+        uses_shape::<u64>(64, 65),
     ];
     assert_eq!(of_numbers, [has_strips && !USES_REGISTERS; 4]);
 }
@@ -131,7 +131,7 @@ fn strips_of_the_parts() {
 /// A call on slices puts the items by the strips that suit their size.
 #[test]
 fn strips_of_calls_on_slices() {
-    fn check<T: Copy + Default + Send + Sync>(width: usize, height: usize) {
+    fn puts_by_strips<T: Copy + Default + Send + Sync>(width: usize, height: usize) {
         let by_call = reads::<T>(width * height, |_, output, source| {
             let matrix = Matrix::new(source, width, height);
             by_type::transpose_region(SliceItems::new(output), matrix, None);
@@ -142,10 +142,10 @@ fn strips_of_calls_on_slices() {
         });
         assert!(by_call == by_strips, "{width} by {height}");
     }
-    check::<u8>(64, 64);
-    check::<u32>(64, 64);
-    check::<u64>(48, 20);
-    check::<u128>(16, 16);
-    check::<u128>(64, 64);
-    check::<u128>(17, 20);
+    puts_by_strips::<u8>(64, 64);
+    puts_by_strips::<u32>(64, 64);
+    puts_by_strips::<u64>(48, 20);
+    puts_by_strips::<u128>(16, 16);
+    puts_by_strips::<u128>(64, 64);
+    puts_by_strips::<u128>(17, 20);
 }

@@ -1,0 +1,5 @@
+//! The tests that need unsafe code.
+
+#[cfg(target_os = "linux")]
+mod guarded;
+mod handed_over;
