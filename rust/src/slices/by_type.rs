@@ -86,7 +86,7 @@ fn run_by<const SIDE: usize, M: Output>(cells: M, matrix: Matrix<impl Input<M::I
     if choice == Choice::Lines {
         return cells.put_by_lines(matrix, region);
     }
-    let strips = strips_of::<SIDE>(size, width, height);
+    let strips = strips_of::<SIDE>(width);
     if const { size_of::<M::Item>() < LONG_BYTES } {
         #[cfg(feature = "checked")]
         if let Some(blocks) = row_blocks_of(size, width, height) {

@@ -16,9 +16,7 @@
 //! | Items | Strips | Why |
 //! |---|---|---|
 //! | 1 or 2 bytes | high, by blocks of 8 by 8 | a register holds one or two rows of such a block |
-//! | 4 bytes | high, by blocks of 4 by 4. On aarch64, by blocks of 8 by 8 | a register holds a row of 4. See `side_of` |
-//! | 8 bytes, on x86-64 up to 32768 items: `BLOCKS_LONG_ITEMS` | the same | on x86-64, in most larger matrices the blocks gain nothing |
-//! | 8 bytes, up to 262144 items, if 512 divides the width: `BLOCKS_FAR_ROWS` | the same | the rows begin a multiple of 4 KiB apart. The lines of a column are in few sets of the cache, and a block uses them up before they are evicted |
+//! | 4 or 8 bytes | high, by blocks of 4 by 4. On aarch64, by blocks of 8 by 8 | a register holds a row of 4, or half a row. See `side_of` |
 //! | all others | low if 16 divides the width, otherwise high, column after column | see `Strips::by_width` |
 //!
 //! Lines are put on x86-64, and blocks where items are transposed in registers. Elsewhere these rows fit no matrix. With the
@@ -54,12 +52,6 @@ pub(super) const OF_USERS: [usize; 5] = [
 
 /// In most tests, short lists are put by lines too.
 pub(super) const LIMITS: [usize; 5] = if cfg!(test) { [1 << 10, 1, 1, 1, 1] } else { OF_USERS };
-
-/// On x86-64, a matrix of more items of 8 bytes is not put by blocks in registers.
-const BLOCKS_LONG_ITEMS: usize = 1 << 15;
-
-/// The same, if the distance of two rows is a multiple of 4 KiB.
-const BLOCKS_FAR_ROWS: usize = 1 << 18;
 
 /// With the feature `checked`, items of so many bytes are put one by one if their list has more than `ROWS_LONG_LIST` bytes.
 const ROWS_LONG_ITEM: usize = 16;
@@ -131,13 +123,8 @@ pub(super) type SliceStrips<const SIDE: usize> = Strips<SIDE, HIGH_ROWS>;
 
 /// The strips of a matrix, and of the leaves of its parts. `SIDE` is `side_of` these items.
 #[inline(always)]
-pub(super) fn strips_of<const SIDE: usize>(size: usize, width: usize, height: usize) -> SliceStrips<SIDE> {
-    let long_items = if width % 512 == 0 {
-        BLOCKS_FAR_ROWS
-    } else {
-        BLOCKS_LONG_ITEMS
-    };
-    if SIDE > 1 && (size < 8 || IS_AARCH64 || width * height <= long_items) {
+pub(super) fn strips_of<const SIDE: usize>(width: usize) -> SliceStrips<SIDE> {
+    if SIDE > 1 {
         Strips::Squares
     } else {
         Strips::by_width(width)

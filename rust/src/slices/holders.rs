@@ -68,6 +68,26 @@ impl<'a, T, D, const STREAM: bool> SliceItems<'a, T, D, STREAM> {
         STREAM && block.rows * size_of::<T>() == LINE && (first | distance) % LINE == 0
     }
 
+    /// Prefetches the next cache line of each column of a square of 4 by 4. The processor makes its stores in order, so a store
+    /// that waits for its cache line delays all stores after it. The places may be outside. No reference is made to them.
+    #[inline(always)]
+    pub(super) fn expect_columns(&self, square: Block) {
+        let size = size_of::<T>();
+        // The stores of shorter items are too small and too many: in a cache, the hints would take longer.
+        if size < 4 || cfg!(debug_assertions) {
+            return;
+        }
+        let expect = |col: usize| {
+            let next = square.to + col * square.height + LINE / size;
+            cache::prefetch(self.first.wrapping_add(next).cast());
+        };
+        // With `opt-level = "s"`, a loop would not be unrolled.
+        expect(0);
+        expect(1);
+        expect(2);
+        expect(3);
+    }
+
     /// Runs a kernel that puts a call or a part by lines. Only this function makes a holder that stores past the caches.
     #[inline(always)]
     pub(super) fn past_caches(self, kernel: impl FnOnce(SliceItems<'a, T, D, true>)) {
@@ -277,6 +297,7 @@ impl<T: Copy, D: squares::Register<T>, const STREAM: bool> Cells for SliceItems<
                 squares::line_blocks::put_by_lines::<T, D, _, _>(self, &items, block);
             }
             Some(items) if const { D::SIDE > 1 } && cols == rows && rows == const { side_of(size_of::<T>()) } => {
+                self.expect_columns(block);
                 squares::put_by_squares::<T, D, _, _>(self, &items, block);
             }
             _ => {

@@ -84,40 +84,20 @@ fn choices() {
 /// The rows of the second table.
 #[test]
 fn strips() {
-    for (width, height) in [
-        (7, 1000),
-        (8, 17),
-        (64, 64),
-        (181, 181),
-        (1, 32_769),
-        (182, 181),
-        (1025, 1024),
-        (512, 512),
-        (512, 513),
-        (1024, 256),
-        (256, 129),
-        (768, 43),
-    ] {
+    for width in [1, 7, 8, 16, 64, 181, 256, 512, 768, 1024, 1025] {
         let by_width = if width % 16 == 0 { "low" } else { "high" };
         for size in [0, 1, 2, 3, 4, 8, 12, 16, 32, 64] {
-            let most = match size {
-                1 | 2 | 4 => usize::MAX,
-                8 if IS_AARCH64 => usize::MAX,
-                8 if width % 512 == 0 => 262_144,
-                8 => 32_768,
-                _ => 0,
-            };
-            let by_blocks = USES_REGISTERS && width * height <= most;
+            let by_blocks = USES_REGISTERS && matches!(size, 1 | 2 | 4 | 8);
             let strips = match side_of(size) {
-                4 => name(strips_of::<4>(size, width, height)),
-                8 => name(strips_of::<8>(size, width, height)),
+                4 => name(strips_of::<4>(width)),
+                8 => name(strips_of::<8>(width)),
                 side => {
                     assert_eq!(side, 1);
-                    name(strips_of::<1>(size, width, height))
+                    name(strips_of::<1>(width))
                 }
             };
             let wanted = if by_blocks { "squares" } else { by_width };
-            assert_eq!(strips, wanted, "{size} {width} {height}");
+            assert_eq!(strips, wanted, "{size} {width}");
         }
     }
 }

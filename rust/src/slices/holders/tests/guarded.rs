@@ -264,6 +264,20 @@ fn hints_read_nothing() {
     for i in [1, GAP - 1, GAP + 1, 2 * GAP, usize::MAX / 4, usize::MAX] {
         source.expect(i);
     }
+    // The cells right of the last column, and below its last row, are in no list either.
+    #[cfg(not(feature = "checked"))]
+    for (to, height) in [(0, 1), (1, GAP), (GAP, 0), (GAP, GAP), (GAP - 3, 1), (GAP - 12, 4)] {
+        let (rows, cols, from, width) = (4, 4, 0, 4);
+        let square = Block {
+            rows,
+            cols,
+            from,
+            width,
+            to,
+            height,
+        };
+        SliceItems::new(runs.list()).expect_columns(square);
+    }
 }
 
 #[test]

@@ -80,17 +80,17 @@ fn each_item_is_read_once() {
 
 /// Puts a matrix by the strips, or the blocks of rows, that suit the size of its items.
 fn put_by_strips<T: Copy>(output: &mut [T], matrix: Matrix<impl Source<Item = T> + Copy>) {
-    let (size, Matrix { width, height, .. }) = (size_of::<T>(), matrix);
+    let (size, width) = (size_of::<T>(), matrix.width);
     let cells = SliceItems::new(output);
     #[cfg(feature = "checked")]
-    if let Some(blocks) = row_blocks_of(size, width, height) {
+    if let Some(blocks) = row_blocks_of(size, width, matrix.height) {
         let _ = transpose_matrix(cells, matrix, blocks);
         return;
     }
     let _ = match side_of(size) {
-        4 => transpose_matrix(cells, matrix, strips_of::<4>(size, width, height)),
-        8 => transpose_matrix(cells, matrix, strips_of::<8>(size, width, height)),
-        _ => transpose_matrix(cells, matrix, strips_of::<1>(size, width, height)),
+        4 => transpose_matrix(cells, matrix, strips_of::<4>(width)),
+        8 => transpose_matrix(cells, matrix, strips_of::<8>(width)),
+        _ => transpose_matrix(cells, matrix, strips_of::<1>(width)),
     };
 }
 
