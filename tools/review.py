@@ -1,12 +1,14 @@
 """For docs/REVIEW.md, the ledger of what is checked by review: compares each row with the functions that it names.
 
     python3 tools/review.py          prints the rows whose functions are not as they were read
-    python3 tools/review.py NAME..   writes that you have read again the rows that name these functions or files
+    python3 tools/review.py NAME..   writes that you have read again the rows that name these functions or files. Of a row
+                                     with whole files, name all of these
 
 Run the second form only after you have read the functions of these rows, and found that they do what the row says. It writes
 into the last cell of a row the commit on top of which you read them, the date, and a checksum of their text without
-documentation. On a branch, the commit is the newest one of `main`, since those of the branch may get other names. tests/agree
-runs the first form."""
+documentation. The checksum of a whole file also leaves out `mod` and `use` if they rename nothing, since a function that is
+added elsewhere changes these lines too. On a branch, the commit is the newest one of `main`, since those of the branch may get
+other names. tests/agree runs the first form."""
 import datetime
 import glob
 import hashlib
@@ -17,6 +19,8 @@ import sys
 LEDGER = "docs/REVIEW.md"
 ROW = re.compile(r"^\| ([^|\n]+) \| ([^|\n]+) \| ([^|\n]+) \|(?: ([^|\n]+))? \|$", re.M)
 READ = re.compile(r"([0-9a-f]{8}) (\d{4}-\d\d-\d\d) ([0-9a-f]{8})")
+# The lines that a checksum leaves out: of a file, those that name others by their own names, and documentation.
+NAMES = re.compile(r"^(?:#\[doc\(inline\)\]\n)?(?:pub(?:\(\w+\))? )?(?:mod \w+|use (?:(?!\bas\b)[^;])+);$", re.M)
 # What begins an item of Rust, or a function of Python.
 ITEM = r"( *)(?:pub(?:\([^)]*\))? )?(?:(?:const|unsafe) )*(?:fn|struct|enum|trait|type|const|def|macro_rules!) {}\b"
 
@@ -59,7 +63,7 @@ def text_of(cell):
         text = open(path, encoding="utf-8").read() if path else ""
         found = [list(items(text, name)) for name in names]
         lost += [file] * (not path) + [name for name, here in zip(names, found) if not here]
-        texts += [one for here in found for one in here] if names else [text]
+        texts += [one for here in found for one in here] if names else [NAMES.sub("", text) if file.endswith(".rs") else text]
     return " ".join(re.sub(r"(?m)^ *//[/!].*", "", "\n".join(texts)).split()), lost
 
 
@@ -93,7 +97,8 @@ def sign(names):
         text = ledger.read()
     commit, today = (git("merge-base", "HEAD", "main") or git("rev-parse", "HEAD"))[:8], datetime.date.today()
     for row in rows():
-        if set(re.findall(r"`([^`]+)`", row[2])) & set(names):
+        whole = {file for file, functions in named(row[2]) if not functions}
+        if whole <= set(names) and set(re.findall(r"`([^`]+)`", row[2])) & set(names):
             read = f"{commit} {today} {sum_of(text_of(row[2])[0])}"
             text = text.replace(row[0], f"| {row[1]} | {row[2]} | {row[3]} | {read} |")
     with open(LEDGER, "w", encoding="utf-8") as ledger:
