@@ -6,7 +6,7 @@ pub use crate::bits::pow2;
 #[doc(hidden)]
 pub use crate::grid::{TILE, exchange_quadrants, exchange_region};
 #[doc(hidden)]
-pub use crate::reverse::rows::RowDigits;
+pub use crate::reverse::rows::{RowDigits, reverse_rows};
 #[doc(hidden)]
 pub use crate::transpose::regions::Matrix;
 #[doc(hidden)]

@@ -1,24 +1,25 @@
 -- The parts of a call, made one after the other in the order of their numbers, for
 -- `src/parts/laws.rt`.
-use Rattle.std.proofs.Common.{◌≡◌, ℕ, Bool, true, false, if◌then◌else◌, ◌+◌, ◌-◌, ◌*◌, ◌/◌, ◌%◌, ◌^◌, ◌<◌, ◌≤◌, List, length, inl, inr, refl, sym, ap, ◌∙◌, arith}
+use Rattle.std.proofs.Common.{◌≡◌, ℕ, Bool, true, false, if◌then◌else◌, ◌+◌, ◌-◌, ◌*◌, ◌/◌, ◌%◌, ◌^◌, ◌<◌, ◌≤◌, List, length, min, inl, inr, refl, sym, ap, ◌∙◌, arith}
 use Rattle.std.proofs.lemmas.Bool.{cases_eq, cases_lt}
 use Rattle.std.proofs.Math.Nat.{mul_comm, mul-div_cancel_left, mul-pos}
-use Rattle.p3_util_parts.specs.declared.parts.RowPairs.{RowPairs}
+use Rattle.p3_util_parts.specs.declared.parts.reversal.ReversalPlan.{ReversalPlan}
+use Rattle.p3_util_parts.specs.declared.parts.reversal.ReversalPlan.TheVariants.{Patches, Whole}
 use Rattle.p3_util_parts.specs.declared.parts.transpose.TransposePlan.{TransposePlan}
 use Rattle.p3_util_kernels.specs.declared.transpose.regions.Region.{Region}
 use Rattle.p3_util_kernels.specs.Sums.{sum_below}
-use Rattle.p3_util_kernels.specs.Grid.{SwapsInGrid, grid_of_rows}
 use Rattle.p3_util_kernels.specs.Halves.{IsCut}
 use Rattle.p3_util_parts.specs.Interleaved.{region_of}
 use Rattle.p3_util_kernels.specs.Mirrored.{Mirrored}
 use Rattle.p3_util_parts.specs.Parts.{part_of_matrix, parts_in, start_of}
-use Rattle.p3_util_parts.specs.Patches.{IsPatch, swaps_of_patch}
-use Rattle.p3_util_parts.specs.Plans.{IsReversalPlan, parts_of}
+use Rattle.p3_util_parts.specs.Plans.{IsPartMade, IsReversalPlan, parts_of, width_of}
 use Rattle.p3_util_kernels.specs.Region.{IsInRegion, IsRegionTransposed, items_of}
 use Rattle.p3_util_kernels.specs.Reversal.{IsRowReversal}
 use Rattle.p3_util_kernels.specs.SwapCounts.{row_swaps, short_swaps}
 use Rattle.p3_util_kernels.specs.Transpose.{IsTranspose}
 use Rattle.p3_util_kernels.proofs.ReverseLemmas.Crossing.{IsRowReversal-crossed}
+use Rattle.p3_util_kernels.proofs.ReverseLemmas.Lengths.{no_digits}
+use Rattle.p3_util_kernels.proofs.ReverseLemmas.Reversal.{IsRowReversal-none}
 use Rattle.p3_util_parts.proofs.CutParts.{start-end, start-next}
 use Rattle.p3_util_kernels.proofs.BitsLemmas.Logarithms.{clog_power}
 use Rattle.p3_util_parts.proofs.PartPlaces.{InPairs, pairs-apart, pairs-exchanged, pairs-turned, place}
@@ -110,36 +111,42 @@ module _ (plan : TransposePlan) where
       ]
 
 -- the first n parts of the plan are made
-abbrev pub AreMade : {A : Type 0} → (plan : RowPairs) (n : ℕ) (old new : List A) → Type 0
-AreMade plan n old new =
-    let digits = plan.rows.digits in
-    let width = plan.rows.width in
-    let part_len = plan.cut.part_len in
-    let some = plan.cut.some_part_len in
+abbrev pub AreMade : {A : Type 0} → (plan : ReversalPlan) (n : ℕ) (old new : List A) → Type 0
+AreMade (Whole items width) n old new = (n ≡ 0 → new ≡ old) × (0 < n → IsRowReversal width old new)
+AreMade (Patches pairs) n old new =
+    let digits = pairs.rows.digits in
+    let width = pairs.rows.width in
+    let part_len = pairs.cut.part_len in
+    let some = pairs.cut.some_part_len in
     Mirrored {M = ℕ × ℕ} (place digits width part_len some) (λ m x y. (k : ℕ) × (k < n) × InPairs digits width part_len some k m x y) old new
 
--- the number of exchanges for the first n parts
-abbrev pub swaps_made : (plan : RowPairs) (n : ℕ) → ℕ
-swaps_made plan n = plan.rows.width * sum_below n (patch_swaps plan.rows.digits plan.cut.part_len plan.cut.some_part_len)
+-- the number of exchanges for the first n parts, of a list of `len` items
+abbrev pub swaps_made : (plan : ReversalPlan) (n len : ℕ) → ℕ
+swaps_made (Whole items width) n len = n * row_swaps len width
+swaps_made (Patches pairs) n len = pairs.rows.width * sum_below n (patch_swaps pairs.rows.digits pairs.cut.part_len pairs.cut.some_part_len)
 
-pub made-none : {A : Type 0} (plan : RowPairs) (xs : List A) → AreMade plan 0 xs xs
-made-none plan xs = record { same_length = refl; crossed = λ m x y h. absurd (omega (arith, h.1)); others = λ p out. refl }
+pub made-none : {A : Type 0} (plan : ReversalPlan) (xs : List A) → AreMade plan 0 xs xs
+made-none (Whole items width) xs = (λ e. refl, λ some. absurd (omega (arith, some)))
+made-none (Patches pairs) xs = record { same_length = refl; crossed = λ m x y h. absurd (omega (arith, h.1)); others = λ p out. refl }
 
-pub swaps-none : (plan : RowPairs) → swaps_made plan 0 ≡ 0
-swaps-none plan = ap (λ n. plan.rows.width * n) (sum_below-zero _) ∙ omega arith
+pub swaps-none : (plan : ReversalPlan) (len : ℕ) → swaps_made plan 0 len ≡ 0
+swaps-none (Whole items width) len = omega arith
+swaps-none (Patches pairs) len = ap (λ n. pairs.rows.width * n) (sum_below-zero _) ∙ omega arith
 
-pub made-length : {A : Type 0} (plan : RowPairs) (n : ℕ) (old new : List A) → AreMade plan n old new → length new ≡ length old
-made-length plan n old new made = made.same_length
+pub made-length : {A : Type 0} (plan : ReversalPlan) (n : ℕ) (old new : List A) → AreMade plan n old new → length new ≡ length old
+made-length (Whole items width) n old new made =
+    elim (cases_eq n 0) [ inl none ↦ ap length (made.0 none) | inr some ↦ (made.1 (omega (arith, some))).same_length ]
+made-length (Patches pairs) n old new made = made.same_length
 
 -- one more part
-pub made-more : {A : Type 0} (plan : RowPairs) (n middle : ℕ) (region : Region) (xs ys zs : List A) → IsPatch plan.rows.digits plan.cut.part_len n middle region
-    → AreMade plan n xs ys → SwapsInGrid (grid_of_rows (plan.rows.digits / 2) (plan.rows.digits - plan.rows.digits / 2) plan.rows.width middle) region ys zs
-    → AreMade plan (n + 1) xs zs
-made-more plan n middle region xs ys zs patch done crossed =
-    let digits = plan.rows.digits in
-    let width = plan.rows.width in
-    let part_len = plan.cut.part_len in
-    let some = plan.cut.some_part_len in
+pub made-more : {A : Type 0} (plan : ReversalPlan) (n : ℕ) (xs ys zs : List A) (Steps : ℕ → Type 0) → n < parts_of plan
+    → AreMade plan n xs ys → IsPartMade plan n ys zs Steps → AreMade plan (n + 1) xs zs
+made-more (Whole items width) n xs ys zs Steps less made next = (λ e. absurd (omega (arith, e)), λ some. rw (made.0 (omega (arith, less))) at next.0)
+made-more (Patches pairs) n xs ys zs Steps less done (middle, region, patch, crossed, steps) =
+    let digits = pairs.rows.digits in
+    let width = pairs.rows.width in
+    let part_len = pairs.cut.part_len in
+    let some = pairs.cut.some_part_len in
     let apart = pairs-apart digits width part_len some in
     let next = pairs-exchanged digits width part_len some n middle region ys zs patch crossed in
     record {
@@ -160,33 +167,51 @@ made-more plan n middle region xs ys zs patch done crossed =
           next.others p (λ m x y s. out m x y (n, omega arith, s)) ∙ done.others p (λ m x y s. out m x y (s.0, omega (arith, s.1), s.2));
     }
 
-pub swaps-more : (plan : RowPairs) (n middle : ℕ) (region : Region) → IsPatch plan.rows.digits plan.cut.part_len n middle region
-    → swaps_made plan n + plan.rows.width * swaps_of_patch region ≡ swaps_made plan (n + 1)
-swaps-more plan n middle region patch =
-    let here = patch-swaps plan.rows.digits plan.cut.part_len plan.cut.some_part_len n middle region patch in
-    let next = sum_below-next n (patch_swaps plan.rows.digits plan.cut.part_len plan.cut.some_part_len) in
-    rw (here, next) (omega arith)
+pub swaps-more : {A : Type 0} (plan : ReversalPlan) (n len : ℕ) (ys zs : List A) (Steps : ℕ → Type 0) → length ys ≡ len
+    → IsPartMade plan n ys zs Steps → (more : ℕ) × Steps more × (swaps_made plan n len + more ≡ swaps_made plan (n + 1) len)
+swaps-more (Whole items width) n len ys zs Steps same next = (_, rw same at next.1, grind arith)
+swaps-more (Patches pairs) n len ys zs Steps same (middle, region, patch, crossed, steps) =
+    let swaps : ℕ → ℕ = patch_swaps pairs.rows.digits pairs.cut.part_len pairs.cut.some_part_len in
+    let next = sum_below-next n swaps in (
+      pairs.rows.width * swaps n,
+      rw (patch-swaps pairs.rows.digits pairs.cut.part_len pairs.cut.some_part_len n middle region patch) at steps,
+      rw next (omega arith),
+    )
 
 -- all parts
-pub made-all : {A : Type 0} (plan : RowPairs) (old new : List A) → IsReversalPlan (length old) plan → AreMade plan (parts_of plan) old new
-    → IsRowReversal plan.rows.width old new
-made-all plan old new of made =
-    let digits : ℕ = plan.rows.digits in
+pub made-all : {A : Type 0} (plan : ReversalPlan) (old new : List A) → IsReversalPlan (length old) plan → AreMade plan (parts_of plan) old new
+    → IsRowReversal (width_of plan) old new
+made-all (Whole items width) old new of made =
+    elim (cases_eq items 0) [
+      | inl none ↦ IsRowReversal-none width old new (omega (arith, none, of.0)) (ap length (made.0 (omega (arith, none))))
+      | inr some ↦ made.1 (omega (arith, some))
+    ]
+made-all (Patches pairs) old new of made =
+    let digits : ℕ = pairs.rows.digits in
     let half : ℕ = digits / 2 in
     let c : ℕ = digits - half in
     let whole : half + c ≡ digits = omega arith in
     let rest : digits - digits / 2 - digits / 2 ≡ digits % 2 = omega arith in
-    IsRowReversal-crossed half c (omega arith) plan.rows.width old new (omega arith) (rw whole of.1) made.same_length
+    IsRowReversal-crossed half c (omega arith) pairs.rows.width old new (omega arith) (rw whole of.1) made.same_length
     (λ m x y item.
-    let (k, less, at) = patch-covered digits plan.cut.part_len plan.cut.some_part_len m.0 x y (rw rest at item.middle) item.high item.low in
+    let (k, less, at) = patch-covered digits pairs.cut.part_len pairs.cut.some_part_len m.0 x y (rw rest at item.middle) item.high item.low in
     made.crossed m x y (k, less, (item.item, at)))
 
+-- an empty list has no rows to exchange
+pub swaps-empty : (len width : ℕ) → len ≡ 0 → row_swaps len width ≡ 0
+swaps-empty len width none = ap (λ d. width * short_swaps d) (no_digits len width none) ∙ omega arith
+
 -- a plan takes as many exchanges as the reversal that is not cut
-pub swaps-all : (plan : RowPairs) (len : ℕ) → IsReversalPlan len plan → swaps_made plan (parts_of plan) ≡ row_swaps len plan.rows.width
-swaps-all plan len of =
-    let digits : ℕ = plan.rows.digits in
-    let width : ℕ = plan.rows.width in
+pub swaps-all : (plan : ReversalPlan) (len : ℕ) → IsReversalPlan len plan → swaps_made plan (parts_of plan) len ≡ row_swaps len (width_of plan)
+swaps-all (Whole items width) len of =
+    elim (cases_eq items 0) [
+      | inl none ↦ rw (swaps-empty len width (omega (arith, none, of.0))) (omega arith)
+      | inr some ↦ let one : min items 1 ≡ 1 = omega (arith, some) in rw one (omega arith)
+    ]
+swaps-all (Patches pairs) len of =
+    let digits : ℕ = pairs.rows.digits in
+    let width : ℕ = pairs.rows.width in
     let rest : digits - digits / 2 - digits / 2 ≡ digits % 2 = omega arith in
-    let all = patches-sum digits plan.cut.part_len plan.cut.some_part_len ∙ rw rest at (squares-short digits) in
+    let all = patches-sum digits pairs.cut.part_len pairs.cut.some_part_len ∙ rw rest at (squares-short digits) in
     let rows : len / width ≡ 2 ^ digits = ap (λ n. n / width) of.1 ∙ mul-div_cancel_left (2 ^ digits) of.0 in
     ap (λ n. width * n) (all ∙ ap short_swaps (sym (clog_power (len / width) digits rows)))

@@ -1,14 +1,17 @@
 -- The law for the parts of a call, for `src/parts/laws.rt`: which places a part has, and that
 -- interleaved steps of all parts are the call, on every list.
-use Rattle.std.proofs.Common.{◌≡◌, ◌≢◌, ℕ, true, ◌+◌, ◌-◌, ◌*◌, ◌/◌, ◌%◌, ◌^◌, ◌<◌, if◌then◌else◌, List, [], ◌∷◌, Some, get_or, length, map, slice_get, inl, inr, refl, sym, ◌∙◌, ap, arith}
+use Rattle.std.proofs.Common.{◌≡◌, ◌≢◌, ℕ, zero, suc, true, ◌+◌, ◌-◌, ◌*◌, ◌/◌, ◌%◌, ◌^◌, ◌<◌, if◌then◌else◌, List, [], ◌∷◌, Some, get_or, length, map, slice_get, inl, inr, refl, sym, ◌∙◌, ap, arith}
 use Rattle.std.specs.Prelude.{swap}
 use Rattle.std.proofs.Math.ListN.{get_or-map}
 use Rattle.std.proofs.Math.Nat.{mul-div_cancel_left, mul-pos}
 use Rattle.std.proofs.lemmas.Bool.{cases_eq, cases_lt}
-use Rattle.std.proofs.lemmas.List.{length-map, length-set, map-set}
+use Rattle.std.proofs.lemmas.List.{length-map, length-set, map-set, nil_from_length}
+use Rattle.std.proofs.lemmas.List.Elements.{All-head}
 use Rattle.std.proofs.lemmas.List.FromFn.{fill_by_all, get_or-range_with_len, length-range_with_len}
 use Rattle.std.proofs.lemmas.Nat.{mul-add-lt}
-use Rattle.std.proofs.lemmas.Option.{same_Some, slice_get-get_or, slice_get-map, slice_get_past, slice_get_within}
+use Rattle.std.proofs.lemmas.Option.{none-some, same_Some, slice_get-get_or, slice_get-map, slice_get_past, slice_get_within}
+use Rattle.p3_util_parts.specs.declared.parts.reversal.ReversalPlan.{ReversalPlan}
+use Rattle.p3_util_parts.specs.declared.parts.reversal.ReversalPlan.TheVariants.{Patches, Whole}
 use Rattle.p3_util_parts.specs.declared.parts.RowPairs.{RowPairs}
 use Rattle.p3_util_parts.specs.declared.parts.transpose.TransposePlan.{TransposePlan}
 use Rattle.p3_util_parts.specs.Interleaved.{AreOfParts, IsInterleaved, IsMadeAlone, IsPutAlone, numbers_below, puts_of, region_of}
@@ -16,10 +19,11 @@ use Rattle.p3_util_kernels.specs.Least.{AllDiffer, AreOnceAmong, after_puts, aft
 use Rattle.p3_util_parts.specs.Parts.{parts_in}
 use Rattle.p3_util_parts.specs.PlacesOfParts.{IsPlaceOfPart, IsPlaceOfRegion, NoItemInCommon, NoPlaceInCommon}
 use Rattle.p3_util_kernels.specs.Least.{SwapsLead}
-use Rattle.p3_util_parts.specs.Plans.{IsPartMade, IsReversalPlan, parts_of}
+use Rattle.p3_util_parts.specs.Plans.{IsPartMade, IsReversalPlan, parts_of, width_of}
 use Rattle.p3_util_kernels.specs.Region.{LiesInMatrix}
 use Rattle.p3_util_kernels.specs.Reversal.{IsRowReversal}
-use Rattle.p3_util_kernels.specs.SwapCounts.{row_swaps}
+use Rattle.p3_util_kernels.specs.SwapCounts.{row_swaps, short_swaps}
+use Rattle.p3_util_kernels.specs.Logarithms.{clog}
 use Rattle.p3_util_kernels.specs.Transpose.{IsTranspose}
 use Rattle.p3_util_parts.proofs.PatchesLemmas.{patch-covered}
 use Rattle.p3_util_parts.proofs.PatchSteps.{pairs-steps}
@@ -32,9 +36,11 @@ use Rattle.p3_util_kernels.proofs.LawsLemmas.Least.{count-moved, row_moves, rows
 use Rattle.p3_util_kernels.proofs.BitsLemmas.Logarithms.{clog_power}
 use Rattle.p3_util_kernels.proofs.TransposeLemmas.Matrix.{each_place}
 use Rattle.p3_util_parts.proofs.PartPlaces.{pairs-apart, pairs-exchanged, pairs-inside, part-apart, part-covers, place}
+use Rattle.p3_util_parts.proofs.PartsInOrder.{swaps-empty}
 use Rattle.p3_util_parts.proofs.RegionSteps.{region-stays}
+use Rattle.p3_util_kernels.proofs.ReverseLemmas.Lengths.{IsDigitsOfRows-from}
 use Rattle.p3_util_kernels.proofs.ReverseLemmas.Reversal.{IsRowReversal-none}
-use Rattle.p3_util_kernels.proofs.PlacesLemmas.WrittenPlaces.{AreOnceAmong-weaker, puts-places, puts-written, swaps-places, swaps-written, written-count}
+use Rattle.p3_util_kernels.proofs.PlacesLemmas.WrittenPlaces.{AreOnceAmong-weaker, puts-places, puts-written, swaps-places, swaps-written, written-at, written-count}
 
 -- the list of the numbers below n
 numbers-length : (n : ℕ) → length (numbers_below n) ≡ n
@@ -181,38 +187,64 @@ reversal-of_any {A} width all (d ∷ xs) reversal =
     let is : old ≡ map item (numbers_below (length old)) = fill_by_all item old (length old) d refl (λ k less. refl) in
     rw is (rw (← swaps-map) (IsRowReversal-map item width _ _ reversal))
 
--- the places of the exchanges of a part
-pub swaps-stay : (plan : RowPairs) (len k : ℕ) (steps : List (ℕ × ℕ)) → IsReversalPlan len plan → IsMadeAlone plan k (numbers_below len) steps
-    → AreOnceAmong (λ p. IsPlaceOfPart plan k p × (slice_get (numbers_below len) p ≢ slice_get (after_swaps (numbers_below len) steps) p)) (places_swapped steps)
-swaps-stay plan len k steps of (middle, region, patch, crossed, many) =
-    let rows = plan.rows in
-    let some = plan.cut.some_part_len in
-    pairs-steps rows.digits rows.width plan.cut.part_len k some middle region patch (numbers_below len) _ steps (numbers-length len ∙ of.1) (numbers-differ len) refl
-    (pairs-exchanged rows.digits rows.width plan.cut.part_len some k middle region (numbers_below len) _ patch crossed) many
+-- no list has an interleaving but the empty one, and a single list has only itself
+no-lists : {S : Type 0} (all : List S) → IsInterleaved [] all → all ≡ []
+unfolding IsInterleaved
+no-lists [] done = refl
+no-lists (s ∷ all) (k, rest, e, next) = absurd (none-some (s ∷ rest) e)
 
-pub parts-apart : (plan : RowPairs) (i j : ℕ) → i ≢ j → NoPlaceInCommon (IsPlaceOfPart plan i) (IsPlaceOfPart plan j)
-parts-apart plan i j other p (m, t, x, y, less, at, e) (n, u, v, w, less', at', e') =
-    other (pairs-apart plan.rows.digits plan.rows.width plan.cut.part_len plan.cut.some_part_len i j (m, t) (n, u) x y v w (less, at) (less', at') (sym e ∙ e'))
+only-list : {S : Type 0} (all steps : List S) → IsInterleaved (steps ∷ []) all → all ≡ steps
+unfolding IsInterleaved
+only-list [] steps done = sym (All-head (λ steps. steps ≡ []) steps [] done)
+only-list (s ∷ all) steps (zero, rest, e, next) = ap (λ t. s ∷ t) (only-list all rest next) ∙ sym (same_Some steps (s ∷ rest) e)
+only-list (s ∷ all) steps (suc k, rest, e, next) = absurd (none-some (s ∷ rest) e)
+
+one-list : {S : Type 0} (lists : List (List S)) (all : List S) → length lists ≡ 1 → IsInterleaved lists all → slice_get lists 0 ≡ Some all
+one-list [] all one is = absurd (omega (arith, one))
+one-list (steps ∷ []) all one is = ap (λ s. Some s) (sym (only-list all steps is))
+one-list (steps ∷ more ∷ lists) all one is = absurd (omega (arith, one))
+
+-- the places of the exchanges of a part
+pub swaps-stay : (plan : ReversalPlan) (len k : ℕ) (steps : List (ℕ × ℕ)) → k < parts_of plan → IsReversalPlan len plan → IsMadeAlone plan k (numbers_below len) steps
+    → AreOnceAmong (λ p. IsPlaceOfPart plan k p × (slice_get (numbers_below len) p ≢ slice_get (after_swaps (numbers_below len) steps) p)) (places_swapped steps)
+swaps-stay (Whole _ width) len k steps less of (reversal, many) =
+    let first : k ≡ 0 = omega (arith, less) in
+    let digits : ℕ = clog (len / width) in
+    let fits : len ≡ width * 2 ^ digits = (IsDigitsOfRows-from len width digits (λ e. omega (arith, e, less, of.0)) of.1 refl).whole in
+    let moved = rows-differ-where width digits (numbers_below len) (after_swaps (numbers_below len) steps) (numbers-length len ∙ fits) (numbers-differ len) reversal in
+    AreOnceAmong-weaker _ _ (places_swapped steps) (λ p (i, less, t, e). ((first, omega (arith, e, less, fits, of.0)), rw e ((moved i less).0 t)))
+    (written-at (width * 2 ^ digits) (λ i. i) (row_moves width digits) (λ i j hi hj ti tj e. e) (places_swapped steps) (numbers_below len) _
+    (swaps-written steps (numbers_below len)) (λ i less t. (moved i less).0 t) (omega (arith, count-moved width digits, swaps-places steps, rw numbers-length at many)))
+swaps-stay (Patches pairs) len k steps less of (middle, region, patch, crossed, many) =
+    let rows = pairs.rows in
+    let some = pairs.cut.some_part_len in
+    pairs-steps rows.digits rows.width pairs.cut.part_len k some middle region patch (numbers_below len) _ steps (numbers-length len ∙ of.1) (numbers-differ len) refl
+    (pairs-exchanged rows.digits rows.width pairs.cut.part_len some k middle region (numbers_below len) _ patch crossed) many
+
+pub parts-apart : (plan : ReversalPlan) (i j : ℕ) → i ≢ j → NoPlaceInCommon (IsPlaceOfPart plan i) (IsPlaceOfPart plan j)
+parts-apart (Whole _ _) i j other p at at' = other (at.0 ∙ sym at'.0)
+parts-apart (Patches pairs) i j other p (m, t, x, y, less, at, e) (n, u, v, w, less', at', e') =
+    other (pairs-apart pairs.rows.digits pairs.rows.width pairs.cut.part_len pairs.cut.some_part_len i j (m, t) (n, u) x y v w (less, at) (less', at') (sym e ∙ e'))
 
 -- patches of pairs of rows, on the list of numbers
-module _ (plan : RowPairs) (len : ℕ) (of : IsReversalPlan len plan) (lists : List (List (ℕ × ℕ))) (all : List (ℕ × ℕ))
-    (alone : AreOfParts (parts_of plan) (λ k. IsMadeAlone plan k (numbers_below len)) lists) (is : IsInterleaved lists all) where
+module _ (pairs : RowPairs) (len : ℕ) (of : IsReversalPlan len (Patches pairs)) (lists : List (List (ℕ × ℕ))) (all : List (ℕ × ℕ))
+    (alone : AreOfParts (parts_of (Patches pairs)) (λ k. IsMadeAlone (Patches pairs) k (numbers_below len)) lists) (is : IsInterleaved lists all) where
   abbrev digits : ℕ
-  digits = plan.rows.digits
+  digits = pairs.rows.digits
 
   abbrev width : ℕ
-  width = plan.rows.width
+  width = pairs.rows.width
 
   own-pairs : (k : ℕ) (steps : List (ℕ × ℕ)) → slice_get lists k ≡ Some steps
-      → AreOnceAmong (λ p. IsPlaceOfPart plan k p × (slice_get (numbers_below len) p ≢ slice_get (after_swaps (numbers_below len) (get_or lists k [])) p)) (places_swapped steps)
+      → AreOnceAmong (λ p. IsPlaceOfPart (Patches pairs) k p × (slice_get (numbers_below len) p ≢ slice_get (after_swaps (numbers_below len) (get_or lists k [])) p)) (places_swapped steps)
   own-pairs k steps e =
       let within = slice_get_within lists k steps e in
       let same : get_or lists k [] ≡ steps = same_Some _ _ (sym (slice_get-get_or lists k [] within) ∙ e) in
-      rw same (swaps-stay plan len k steps of (alone.1 k steps e))
+      rw same (swaps-stay (Patches pairs) len k steps (omega (arith, within, alone.0)) of (alone.1 k steps e))
 
-  pair-inside : (k p : ℕ) → IsPlaceOfPart plan k p → p < length (numbers_below len)
+  pair-inside : (k p : ℕ) → IsPlaceOfPart (Patches pairs) k p → p < length (numbers_below len)
   pair-inside k p (m, t, x, y, less, at, e) =
-      rw e (pairs-inside digits width plan.cut.part_len plan.cut.some_part_len (length (numbers_below len)) k (m, t) x y (numbers-length len ∙ of.1) (less, at))
+      rw e (pairs-inside digits width pairs.cut.part_len pairs.cut.some_part_len (length (numbers_below len)) k (m, t) x y (numbers-length len ∙ of.1) (less, at))
 
   all-reversed : IsRowReversal width (numbers_below len) (after_swaps (numbers_below len) all)
   all-reversed =
@@ -223,11 +255,11 @@ module _ (plan : RowPairs) (len : ℕ) (of : IsReversalPlan len plan) (lists : L
       IsRowReversal-crossed half c (omega arith) width (numbers_below len) (after_swaps (numbers_below len) all) (omega arith) (rw whole (numbers-length len ∙ of.1))
       (after-length swaps-are all (numbers_below len))
       (λ m x y item.
-      let (k, less, at) = patch-covered digits plan.cut.part_len plan.cut.some_part_len m.0 x y (rw rest at item.middle) item.high item.low in
+      let (k, less, at) = patch-covered digits pairs.cut.part_len pairs.cut.some_part_len m.0 x y (rw rest at item.middle) item.high item.low in
       let (middle, region, patch, crossed, many) = alone.1 k (get_or lists k []) (slice_get-get_or lists k [] (omega (arith, less, alone.0))) in
-      of-part swaps-are (IsPlaceOfPart plan) (parts-apart plan) (numbers_below len) pair-inside lists own-pairs all is k
-      (place digits width plan.cut.part_len plan.cut.some_part_len m x y) (m.0, m.1, x, y, item.item, at, refl)
-      ∙ (pairs-exchanged digits width plan.cut.part_len plan.cut.some_part_len k middle region (numbers_below len) _ patch crossed).crossed m x y (item.item, at))
+      of-part swaps-are (IsPlaceOfPart (Patches pairs)) (parts-apart (Patches pairs)) (numbers_below len) pair-inside lists own-pairs all is k
+      (place digits width pairs.cut.part_len pairs.cut.some_part_len m x y) (m.0, m.1, x, y, item.item, at, refl)
+      ∙ (pairs-exchanged digits width pairs.cut.part_len pairs.cut.some_part_len k middle region (numbers_below len) _ patch crossed).crossed m x y (item.item, at))
 
   all-counted : length all ≡ row_swaps len width
   all-counted =
@@ -238,18 +270,31 @@ module _ (plan : RowPairs) (len : ℕ) (of : IsReversalPlan len plan) (lists : L
       (λ p changed.
       let below : p < width * 2 ^ digits = omega (arith, numbers-length len, of.1, changed-below (numbers_below len) new p (after-length swaps-are all (numbers_below len)) changed) in
       (below, (moved p below).1 changed))
-      (all-changed swaps-are (IsPlaceOfPart plan) (parts-apart plan) (numbers_below len) pair-inside lists own-pairs all is))
+      (all-changed swaps-are (IsPlaceOfPart (Patches pairs)) (parts-apart (Patches pairs)) (numbers_below len) pair-inside lists own-pairs all is))
       (λ p less t. (moved p less).0 t) in
       let rows : len / width ≡ 2 ^ digits = ap (λ n. n / width) of.1 ∙ mul-div_cancel_left (2 ^ digits) of.0 in
       rw (clog_power (len / width) digits rows) (omega (arith, count, count-moved width digits, swaps-places all))
 
-pub swaps-reverse : {A : Type 0} (plan : RowPairs) (old : List A) (lists : List (List (ℕ × ℕ))) (all : List (ℕ × ℕ)) → IsReversalPlan (length old) plan
+pub swaps-reverse : {A : Type 0} (plan : ReversalPlan) (old : List A) (lists : List (List (ℕ × ℕ))) (all : List (ℕ × ℕ)) → IsReversalPlan (length old) plan
     → AreOfParts (parts_of plan) (λ k. IsMadeAlone plan k (numbers_below (length old))) lists → IsInterleaved lists all
-    → IsRowReversal plan.rows.width old (after_swaps old all) × (length all ≡ row_swaps (length old) plan.rows.width)
-swaps-reverse plan old lists all of alone is =
-    (reversal-of_any plan.rows.width all old (all-reversed plan (length old) of lists all alone is), all-counted plan (length old) of lists all alone is)
+    → IsRowReversal (width_of plan) old (after_swaps old all) × (length all ≡ row_swaps (length old) (width_of plan))
+swaps-reverse (Whole n width) old lists all of alone is =
+    elim (cases_eq n 0) [
+      | inl none ↦
+          let no_lists : lists ≡ [] = nil_from_length lists (alone.0 ∙ omega (arith, none)) in
+          let no_steps : all ≡ [] = no-lists all (rw no_lists at is) in
+          let empty : length old ≡ 0 = omega (arith, none, of.0) in
+          rw no_steps (IsRowReversal-none width old _ empty (after-length swaps-are [] old), sym (swaps-empty (length old) width empty))
+      | inr some ↦
+          let one : length lists ≡ 1 = alone.0 ∙ omega (arith, some) in
+          let (reversal, many) = alone.1 0 all (one-list lists all one is) in
+          (reversal-of_any width all old reversal, rw numbers-length at many)
+    ]
+swaps-reverse (Patches pairs) old lists all of alone is =
+    (reversal-of_any pairs.rows.width all old (all-reversed pairs (length old) of lists all alone is), all-counted pairs (length old) of lists all alone is)
 
 -- exchanges that make a part, if it is known that there are some
-pub alone-from : {A : Type 0} (plan : RowPairs) (k : ℕ) (old new : List A) → IsPartMade plan k old new (λ n. SwapsLead n old new)
+pub alone-from : {A : Type 0} (plan : ReversalPlan) (k : ℕ) (old new : List A) → IsPartMade plan k old new (λ n. SwapsLead n old new)
     → (steps : List (ℕ × ℕ)) × (new ≡ after_swaps old steps) × IsMadeAlone plan k old steps
-alone-from plan k old new (middle, part, patch, made, (steps, many, leads)) = (steps, sym leads, rw leads (middle, part, patch, made, many))
+alone-from (Whole _ width) k old new (made, (steps, many, leads)) = (steps, sym leads, rw leads (made, many))
+alone-from (Patches pairs) k old new (middle, part, patch, made, (steps, many, leads)) = (steps, sym leads, rw leads (middle, part, patch, made, many))

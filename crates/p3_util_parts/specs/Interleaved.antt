@@ -3,7 +3,7 @@
 -- Source: new.
 use Rattle.std.specs.Prelude.{ℕ, ◌≡◌, List, [], ◌∷◌, All, Some, length, map, slice_get, slice_set}
 use Rattle.std.specs.List.{range_with_len}
-use Rattle.p3_util_parts.specs.declared.parts.RowPairs.{RowPairs}
+use Rattle.p3_util_parts.specs.declared.parts.reversal.ReversalPlan.{ReversalPlan}
 use Rattle.p3_util_parts.specs.declared.parts.transpose.TransposePlan.{TransposePlan}
 use Rattle.p3_util_kernels.specs.declared.transpose.regions.Region.{Region}
 use Rattle.p3_util_kernels.specs.Least.{after_puts, after_swaps}
@@ -42,5 +42,5 @@ puts_of item steps = map (λ step. (step.0, item step.1)) steps
 
 -- The exchanges `steps`, made on `old` without those of any other part, do what `IsPartMade` says
 -- about part k of the plan, and there are as many as it says
-abbrev pub IsMadeAlone : {A : Type 0} → (plan : RowPairs) (k : ℕ) (old : List A) (steps : List (ℕ × ℕ)) → Type 0
+abbrev pub IsMadeAlone : {A : Type 0} → (plan : ReversalPlan) (k : ℕ) (old : List A) (steps : List (ℕ × ℕ)) → Type 0
 IsMadeAlone plan k old steps = IsPartMade plan k old (after_swaps old steps) (λ n. length steps ≡ n)

@@ -2,7 +2,8 @@
 -- `src/parts/laws.rt`.
 -- Source: new.
 use Rattle.std.specs.Prelude.{◌≡◌, ◌≢◌, ℕ, ◌+◌, ◌-◌, ◌*◌, ◌/◌, ◌<◌, min, max, List, length, slice_get}
-use Rattle.p3_util_parts.specs.declared.parts.RowPairs.{RowPairs}
+use Rattle.p3_util_parts.specs.declared.parts.reversal.ReversalPlan.{ReversalPlan}
+use Rattle.p3_util_parts.specs.declared.parts.reversal.ReversalPlan.TheVariants.{Patches, Whole}
 use Rattle.p3_util_kernels.specs.declared.transpose.regions.Region.{Region}
 use Rattle.p3_util_parts.specs.Patches.{IsPatch}
 use Rattle.p3_util_kernels.specs.Crossing.{row_of}
@@ -26,10 +27,12 @@ abbrev pub IsInPatch : (digits part_len number middle a b : ℕ) → Type 0
 IsInPatch digits part_len number middle a b =
     (region : Region) × IsPatch digits part_len number middle region × IsInRegion region (max a b) (min a b)
 
--- p is a place of part `number` of the plan: a place in one of the rows that the patch with this
--- number exchanges. A row that stays where it is counts as a pair with itself
-abbrev pub IsPlaceOfPart : (plan : RowPairs) (number p : ℕ) → Type 0
-IsPlaceOfPart plan number p =
-    let half = plan.rows.digits / 2 in
-    (m t x y : ℕ) × (t < plan.rows.width) × IsInPatch plan.rows.digits plan.cut.part_len number m x y
-    × (p ≡ row_of half (plan.rows.digits - half) m x y * plan.rows.width + t)
+-- p is a place of part `number` of the plan. The part that is the whole call has all places. A patch
+-- has the places in the rows that it exchanges. A row that stays where it is counts as a pair with
+-- itself
+abbrev pub IsPlaceOfPart : (plan : ReversalPlan) (number p : ℕ) → Type 0
+IsPlaceOfPart (Whole items width) number p = (number ≡ 0) × (p < items)
+IsPlaceOfPart (Patches pairs) number p =
+    let half = pairs.rows.digits / 2 in
+    (m t x y : ℕ) × (t < pairs.rows.width) × IsInPatch pairs.rows.digits pairs.cut.part_len number m x y
+    × (p ≡ row_of half (pairs.rows.digits - half) m x y * pairs.rows.width + t)

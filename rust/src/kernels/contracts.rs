@@ -725,7 +725,7 @@
 //!
 //! -- The exchanges `steps`, made on `old` without those of any other part, do what `IsPartMade` says
 //! -- about part k of the plan, and there are as many as it says
-//! abbrev pub IsMadeAlone : {A : Type 0} → (plan : RowPairs) (k : ℕ) (old : List A) (steps : List (ℕ × ℕ)) → Type 0
+//! abbrev pub IsMadeAlone : {A : Type 0} → (plan : ReversalPlan) (k : ℕ) (old : List A) (steps : List (ℕ × ℕ)) → Type 0
 //! IsMadeAlone plan k old steps = IsPartMade plan k old (after_swaps old steps) (λ n. length steps ≡ n)
 //! ```
 //!
@@ -850,34 +850,55 @@
 //! IsInPatch digits part_len number middle a b =
 //!     (region : Region) × IsPatch digits part_len number middle region × IsInRegion region (max a b) (min a b)
 //!
-//! -- p is a place of part `number` of the plan: a place in one of the rows that the patch with this
-//! -- number exchanges. A row that stays where it is counts as a pair with itself
-//! abbrev pub IsPlaceOfPart : (plan : RowPairs) (number p : ℕ) → Type 0
-//! IsPlaceOfPart plan number p =
-//!     let half = plan.rows.digits / 2 in
-//!     (m t x y : ℕ) × (t < plan.rows.width) × IsInPatch plan.rows.digits plan.cut.part_len number m x y
-//!     × (p ≡ row_of half (plan.rows.digits - half) m x y * plan.rows.width + t)
+//! -- p is a place of part `number` of the plan. The part that is the whole call has all places. A patch
+//! -- has the places in the rows that it exchanges. A row that stays where it is counts as a pair with
+//! -- itself
+//! abbrev pub IsPlaceOfPart : (plan : ReversalPlan) (number p : ℕ) → Type 0
+//! IsPlaceOfPart (Whole items width) number p = (number ≡ 0) × (p < items)
+//! IsPlaceOfPart (Patches pairs) number p =
+//!     let half = pairs.rows.digits / 2 in
+//!     (m t x y : ℕ) × (t < pairs.rows.width) × IsInPatch pairs.rows.digits pairs.cut.part_len number m x y
+//!     × (p ≡ row_of half (pairs.rows.digits - half) m x y * pairs.rows.width + t)
 //! ```
 //!
 //! # Definitions: Plans
 //!
 //! ```text
-//! -- The parts of a reversal that is cut. These definitions serve private contracts: those of
-//! -- `src/parts.rt` and of `src/parts/laws.rt`.
+//! -- How a reversal is cut, and its parts. These definitions serve private contracts: those of
+//! -- `src/parts/reversal.rt` and of `src/parts/laws.rt`.
 //! -- Source: new.
 //!
+//! -- the number of items of each row that the plan reverses
+//! abbrev pub width_of : (plan : ReversalPlan) → ℕ
+//! width_of (Whole items width) = width
+//! width_of (Patches pairs) = pairs.rows.width
+//!
 //! -- the plan is one for a list of `len` items
-//! abbrev pub IsReversalPlan : (len : ℕ) (plan : RowPairs) → Type 0
-//! IsReversalPlan len plan = (0 < plan.rows.width) × (len ≡ plan.rows.width * 2 ^ plan.rows.digits)
+//! abbrev pub IsReversalPlan : (len : ℕ) (plan : ReversalPlan) → Type 0
+//! IsReversalPlan len (Whole items width) = (items ≡ len) × FitsRows len width
+//! IsReversalPlan len (Patches pairs) = (0 < pairs.rows.width) × (len ≡ pairs.rows.width * 2 ^ pairs.rows.digits)
+//!
+//! -- The plan has patches exactly if a number of parts is asked for and the list has items. Then each
+//! -- side of a grid is cut into at most so many parts, where 0 counts as 1. These are no longer than
+//! -- necessary, and begin at multiples of `unit` if a row is one item.
+//! abbrev pub IsCutAsAsked : (len : ℕ) (asked : Option ℕ) (unit : ℕ) (plan : ReversalPlan) → Type 0
+//! IsCutAsAsked len asked unit (Whole items width) = (len ≡ 0) ⊎ (asked ≡ None)
+//! IsCutAsAsked len asked unit (Patches pairs) =
+//!     let each = if pairs.rows.width == 1 then unit else 1 in
+//!     (parts : ℕ) × (asked ≡ Some parts) × (0 < len)
+//!     × (parts_in pairs.cut.len pairs.cut.part_len ≤ max parts 1) × IsLeastPartLen parts each pairs.cut.len pairs.cut.part_len
+//!     × ((k : ℕ) → k < parts_in pairs.cut.len pairs.cut.part_len → start_of pairs.cut.len pairs.cut.part_len k % each ≡ 0)
 //!
 //! -- the number of parts of a plan
-//! abbrev pub parts_of : (plan : RowPairs) → ℕ
-//! parts_of plan = patches_of plan.rows.digits plan.cut.part_len
+//! abbrev pub parts_of : (plan : ReversalPlan) → ℕ
+//! parts_of (Whole items width) = min items 1
+//! parts_of (Patches pairs) = patches_of pairs.rows.digits pairs.cut.part_len
 //!
 //! -- Part `number` of the plan turns `old` into `new`, and `Steps` holds for the number of its
-//! -- exchanges. The part exchanges the pairs of rows of a patch.
-//! abbrev pub IsPartMade : {A : Type 0} → (plan : RowPairs) (number : ℕ) (old new : List A) (Steps : ℕ → Type 0) → Type 0
-//! IsPartMade plan number old new Steps = IsPatchExchanged plan.rows.digits plan.rows.width plan.cut.part_len number old new Steps
+//! -- exchanges. The part is the reversal itself, or exchanges the pairs of rows of a patch.
+//! abbrev pub IsPartMade : {A : Type 0} → (plan : ReversalPlan) (number : ℕ) (old new : List A) (Steps : ℕ → Type 0) → Type 0
+//! IsPartMade (Whole items width) number old new Steps = IsRowReversal width old new × Steps (row_swaps (length old) width)
+//! IsPartMade (Patches pairs) number old new Steps = IsPatchExchanged pairs.rows.digits pairs.rows.width pairs.cut.part_len number old new Steps
 //! ```
 //!
 //! # Definitions: Flat

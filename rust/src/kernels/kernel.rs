@@ -4,7 +4,7 @@
 
 pub(crate) use crate::kernels::bits::pow2;
 pub(crate) use crate::kernels::grid::{TILE, exchange_quadrants, exchange_region};
-pub(crate) use crate::kernels::reverse::rows::RowDigits;
+pub(crate) use crate::kernels::reverse::rows::{RowDigits, reverse_rows};
 pub(crate) use crate::kernels::transpose::regions::Matrix;
 pub(crate) use crate::kernels::transpose::strips::UNIT;
 pub(crate) use crate::kernels::transpose::ways::{Columns, InCols, Outlined, PutRegion, put_as_block};

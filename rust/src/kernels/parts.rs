@@ -1,21 +1,23 @@
 // rust/erase writes this file from crates/p3_util_parts/src/parts.rt. Make changes there.
 //! Cuts a call into parts, each of which may run on a thread of its own. No thread is started here.
 //!
-//! - A *plan* says how a call is cut: a [`TransposePlan`] for a transpose, and [`RowPairs`]
+//! - A *plan* says how a call is cut: a [`TransposePlan`] for a transpose, and a [`ReversalPlan`]
 //!   for a reversal. The parts may run in any order.
 //! - A transpose is cut into regions. Each region is a part.
-//! - A reversal has one part for each patch of its [`RowPairs`].
+//! - A reversal has one part for each patch of its [`RowPairs`], or the call is its one part.
 //! - A [`Cut`] cuts consecutive numbers, such as the columns of a matrix, into parts.
 //!
 //! The module `laws`, which only the Rattle sources have, states what is proved about the parts:
 //! at which places the steps of each part are, that two parts have no place in common, and that all
 //! parts together have the effect of the call, however their steps are interleaved.
 
+mod reversal;
 mod transpose;
 
 use crate::kernels::kernel::{RowDigits, TILE, exchange_quadrants, exchange_region, pow2};
 use crate::kernels::places::Places;
 use crate::kernels::transpose::Region;
+pub(crate) use reversal::ReversalPlan;
 pub(crate) use transpose::TransposePlan;
 
 /// The numbers below `len`, cut into parts of `part_len` consecutive numbers. The last part may

@@ -11,6 +11,7 @@ use super::by_type;
 use super::choice::LONG_BYTES;
 use super::holders::{Bytes, Items, MOVES_BYTES, SliceItems, SliceSource, USES_REGISTERS, Vector};
 use super::parts::RowPlan;
+use crate::kernels::parts::ReversalPlan;
 use crate::kernels::registers::{Pair, Two};
 use crate::kernels::transpose::{Matrix, Region};
 
@@ -119,9 +120,9 @@ fn reverse_rows_of_bytes(list: ByteList, row: usize) {
 /// Makes the exchanges of a part. A place has a size in the table.
 #[inline(never)]
 fn run_reversal_of_bytes(list: ByteList, plan: RowPlan, number: usize) {
-    match plan.pairs {
-        None => reverse_rows_of_bytes(list, plan.width * plan.bytes),
-        Some(pairs) => by_size!(
+    match plan.parts {
+        ReversalPlan::Whole(_, width) => reverse_rows_of_bytes(list, width * plan.bytes),
+        ReversalPlan::Patches(pairs) => by_size!(
             plan.bytes,
             holder = list => _ = pairs.exchange_patch(holder, number),
             _ => unreachable!("these items have kernels of their type")

@@ -6,8 +6,10 @@ use super::choice::{Choice, LIMITS, LONG_BYTES, ShortChoice, choice_of, short_ch
 #[cfg(feature = "checked")]
 use super::choice::{FEW_ITEMS, row_blocks_of};
 use super::parts::RowPlan;
+use crate::kernels::kernel;
+use crate::kernels::parts::ReversalPlan;
 use crate::kernels::places::{Cells, Places, Source};
-use crate::kernels::reverse::{self, RowDigits, reverse_short};
+use crate::kernels::reverse::{RowDigits, reverse_short};
 #[cfg(not(feature = "checked"))]
 use crate::kernels::transpose::Columns;
 use crate::kernels::transpose::{Matrix, Order, PutRegion, Region, put_as_block};
@@ -21,7 +23,7 @@ pub(super) fn reverse(items: impl Places) {
 /// Reverses the order of rows of `row_width` items by index bits.
 pub(super) fn reverse_rows(items: impl Places, row_width: usize) {
     let rows = RowDigits::of(items.len(), row_width);
-    let _ = reverse::reverse_rows(items, rows);
+    let _ = kernel::reverse_rows(items, rows);
 }
 
 /// Puts a matrix. A user's crate has this, and puts columns itself, since a call would take as long. The calls have single
@@ -136,9 +138,9 @@ pub(super) fn bytes_of_place(size: usize, _row: usize) -> usize {
 
 /// Makes the exchanges of part `number`. A reversal that is not cut is one part.
 pub(super) fn run_reversal(items: impl Places, plan: RowPlan, number: usize) {
-    match plan.pairs {
-        None if plan.width == 1 => reverse(items),
-        None => reverse_rows(items, plan.width),
-        Some(pairs) => _ = pairs.exchange_patch(items, number),
+    match plan.parts {
+        ReversalPlan::Whole(_, 1) => reverse(items),
+        ReversalPlan::Whole(_, width) => reverse_rows(items, width),
+        ReversalPlan::Patches(pairs) => _ = pairs.exchange_patch(items, number),
     }
 }

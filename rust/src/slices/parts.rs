@@ -26,7 +26,7 @@ use core::iter::FusedIterator;
 use core::ops::Range;
 
 use super::{SliceItems, SliceSource, instances};
-use crate::kernels::parts::{RowPairs, TransposePlan};
+use crate::kernels::parts::{ReversalPlan, TransposePlan};
 use crate::kernels::reverse::fits_rows;
 use crate::kernels::transpose::{Matrix, Region, fits_matrix};
 
@@ -92,13 +92,12 @@ struct PartsToRun<'a, T, P> {
 
 type MatrixPlan<'a, T> = (&'a [T], TransposePlan);
 
-/// A reversal of rows of `width` places, of `bytes` bytes each. If it is cut, its parts are patches of `pairs`.
+/// The plan of a reversal of rows of places of `bytes` bytes each.
 #[derive(Clone, Copy)]
 #[cfg_attr(feature = "checked", allow(dead_code, reason = "there, a place is an item"))]
 pub(super) struct RowPlan {
     pub(super) bytes: usize,
-    pub(super) width: usize,
-    pub(super) pairs: Option<RowPairs>,
+    pub(super) parts: ReversalPlan,
 }
 
 impl RowPlan {
@@ -112,11 +111,8 @@ impl RowPlan {
         let bytes = instances::bytes_of_place(size, row);
         // A row consists of whole places, so the rows fit in these too.
         let (places, width) = (len * size / bytes, row / bytes);
-        let pairs = ranges
-            .filter(|_| row > 0)
-            .map(|ranges| RowPairs::new(places, width, ranges));
-        let count = pairs.map_or(usize::from(row > 0), RowPairs::count);
-        (RowPlan { bytes, width, pairs }, count)
+        let parts = ReversalPlan::new(places, width, ranges);
+        (RowPlan { bytes, parts }, parts.count())
     }
 }
 
@@ -237,9 +233,9 @@ impl<F> ReversalPart<'_, F> {
     /// Exchanges the items of this part.
     #[inline]
     pub fn run(self) {
-        // If the reversal is not cut, its one part is the call, for which `RowPlan::new` checked the rows. Otherwise, the
-        // clause `below` of `RowPairs::exchange_patch` holds because `numbers` are below the plan's count, and `ready` because
-        // the pairs are those of the rows of `items`.
+        // The plan is one for the rows of `items`: `RowPlan::new` checked these, and `ReversalPlan::new` says so (`plan`). If it
+        // is not cut, its one part is the call. Otherwise, the clause `below` of `RowPairs::exchange_patch` holds because
+        // `numbers` are below the plan's count, and `ready` because the pairs are those of these rows.
         instances::run_reversal(self.0.items, self.0.plan, self.0.numbers.start);
     }
 }

@@ -113,7 +113,8 @@ pub(crate) fn reverse_chunks<M: Places>(m: M, lb_num_chunks: usize, lb_chunk_siz
 
 /// The kernel of [`reverse_row_index_bits_on`](crate::reverse::reverse_row_index_bits_on).
 #[inline(always)]
-pub(crate) fn reverse_rows<M: Places>(m: M, rows: RowDigits) -> M
+#[doc(hidden)]
+pub fn reverse_rows<M: Places>(m: M, rows: RowDigits) -> M
     requires fits { FitsRows (length (M.items m)) rows.width }
     requires digits { rows.digits ≡ clog (length (M.items m) / rows.width) }
     requires len_fits { length (M.items m) < 2 ^ 64 }

@@ -27,7 +27,6 @@
 
 ghost use Rattle.std.specs.Prelude.{◌≡◌, ◌≢◌, ℕ, ◌+◌, ◌*◌, ◌^◌, ◌<◌, ◌≤◌, ◌↔◌, List, Some, false, length, slice_get};
 ghost use Rattle.p3_util_parts.specs.Interleaved.{AreOfParts, IsInterleaved, IsMadeAlone, IsPutAlone, numbers_below, puts_of, region_of};
-ghost use Rattle.p3_util_kernels.specs.Crossing.{HoldsRows};
 ghost use Rattle.p3_util_kernels.specs.Least.{AreOnceAmong, after_puts, after_swaps, places_put, places_swapped};
 ghost use Rattle.p3_util_parts.specs.PlacesOfParts.{IsPlaceOfPart, IsPlaceOfRegion, NoItemInCommon, NoPlaceInCommon};
 ghost use Rattle.p3_util_kernels.specs.Least.{PutsLead};
@@ -35,13 +34,13 @@ ghost use Rattle.p3_util_kernels.proofs.LawsLemmas.Steps.{more_puts, no_puts, on
 ghost use Rattle.p3_util_kernels.specs.Least.{SwapsLead};
 ghost use Rattle.p3_util_kernels.proofs.LawsLemmas.Steps.{more_swaps, no_swaps, one_swap};
 ghost use Rattle.p3_util_parts.specs.Parts.{parts_in, start_of};
-ghost use Rattle.p3_util_parts.specs.Plans.{IsReversalPlan, parts_of};
+ghost use Rattle.p3_util_parts.specs.Plans.{IsPartMade, IsReversalPlan, parts_of, width_of};
 ghost use Rattle.p3_util_kernels.specs.Reversal.{IsRowReversal};
 ghost use Rattle.p3_util_kernels.specs.SwapCounts.{row_swaps};
 ghost use Rattle.p3_util_kernels.specs.Transpose.{IsTranspose};
 
-use crate::parts::{RowPairs, TransposePlan};
-use p3_util_kernels::kernel::{Matrix, PutRegion};
+use crate::parts::{ReversalPlan, TransposePlan};
+use p3_util_kernels::kernel::{Matrix, PutRegion, RowDigits, reverse_rows};
 use p3_util_kernels::places::{Cells, Places, Source};
 
 /// A holder whose `same_holder n a b` says that some n puts turn the items of `a` into those of
@@ -148,23 +147,36 @@ pub(crate) fn transpose_in_parts<T>(plan: TransposePlan)
         × (length all ≡ plan.width * plan.height) }
 {}
 
+/// Makes part `number` of a reversal: the whole call, or a patch.
+fn exchange_part<M: Places>(m: M, plan: ReversalPlan, number: usize) -> M
+    requires below { number < parts_of plan }
+    requires plan { IsReversalPlan (length (M.items m)) plan }
+    requires len_fits { length (M.items m) < 2 ^ 64 }
+    ensures { IsPartMade plan number (M.items m) (M.items result) (λ n. M.same_holder n m result) }
+{
+    match plan {
+        ReversalPlan::Whole(len, width) => reverse_rows(m, RowDigits::of(len, width)),
+        ReversalPlan::Patches(pairs) => pairs.exchange_patch(m, number),
+    }
+}
+
 /// Each part of a reversal has steps: some exchanges that have the effect of the part, as many as the
 /// part takes.
-pub(crate) fn exchanges_of_part<M: Places>(m: M, plan: RowPairs, number: usize) -> M
+pub(crate) fn exchanges_of_part<M: Places>(m: M, plan: ReversalPlan, number: usize) -> M
     requires below { number < parts_of plan }
-    requires ready { HoldsRows plan.rows.width plan.rows.digits (M.items m) }
+    requires plan { IsReversalPlan (length (M.items m)) plan }
+    requires len_fits { length (M.items m) < 2 ^ 64 }
     ensures { (steps : List (ℕ × ℕ)) × (M.items result ≡ after_swaps (M.items m) steps)
         × IsMadeAlone plan number (M.items m) steps }
 {
-    plan.exchange_patch(ExchangeSteps { places: m }, number)
-        .places
+    exchange_part(ExchangeSteps { places: m }, plan, number).places
 }
 
 /// The law for a reversal. Each part makes exchanges on the list 0, 1, 2 and so on. They are at
 /// places of the part, no two of these places are the same, and two parts have no place in common.
 /// Any interleaving of the exchanges of all parts reverses every list, by as many exchanges as the
 /// reversal that is not cut.
-pub(crate) fn reversal_in_parts<T>(plan: RowPairs)
+pub(crate) fn reversal_in_parts<T>(plan: ReversalPlan)
     ensures stay { (len number : ℕ) (steps : List (ℕ × ℕ)) → number < parts_of plan
         → IsReversalPlan len plan → IsMadeAlone plan number (numbers_below len) steps
         → AreOnceAmong (IsPlaceOfPart plan number) (places_swapped steps) }
@@ -174,8 +186,8 @@ pub(crate) fn reversal_in_parts<T>(plan: RowPairs)
         → IsReversalPlan (length old) plan
         → AreOfParts (parts_of plan) (λ k. IsMadeAlone plan k (numbers_below (length old))) lists
         → IsInterleaved lists all
-        → IsRowReversal plan.rows.width old (after_swaps old all)
-        × (length all ≡ row_swaps (length old) plan.rows.width) }
+        → IsRowReversal (width_of plan) old (after_swaps old all)
+        × (length all ≡ row_swaps (length old) (width_of plan)) }
 {}
 
 /// Puts all parts of a plan for a transpose, in the order of their numbers, as one thread may do. In
@@ -204,14 +216,15 @@ pub(crate) fn put_all_parts<C: Cells, R: Source<Item = C::Item> + Copy, O: PutRe
 
 /// Makes all parts of a reversal, in the order of their numbers, as one thread may do. In any holder
 /// this is the reversal, by as many exchanges as the reversal that is not cut.
-pub(crate) fn exchange_all_parts<M: Places>(m: M, plan: RowPairs) -> M
-    requires ready { HoldsRows plan.rows.width plan.rows.digits (M.items m) }
-    ensures reversed { IsRowReversal plan.rows.width (M.items m) (M.items result) }
-    ensures holder { M.same_holder (row_swaps (length (M.items m)) plan.rows.width) m result }
+pub(crate) fn exchange_all_parts<M: Places>(m: M, plan: ReversalPlan) -> M
+    requires plan { IsReversalPlan (length (M.items m)) plan }
+    requires len_fits { length (M.items m) < 2 ^ 64 }
+    ensures reversed { IsRowReversal (width_of plan) (M.items m) (M.items result) }
+    ensures holder { M.same_holder (row_swaps (length (M.items m)) (width_of plan)) m result }
 {
     let mut m = m;
     for part in 0..plan.count() {
-        m = plan.exchange_patch(m, part);
+        m = exchange_part(m, plan, part);
     }
     m
 }

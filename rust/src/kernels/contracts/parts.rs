@@ -1,7 +1,7 @@
 // rust/erase writes this folder from the proved sources in crates/. Make changes there.
 //! What is proved of the parts of a call: the contracts of the plans by which a call is cut, and the laws about all parts.
 //!
-//! A *plan* says how a call is cut: `TransposePlan` into regions of a matrix, and `RowPairs` into patches of a grid. `put` of a
+//! A *plan* says how a call is cut: `TransposePlan` into regions of a matrix, and `ReversalPlan` into patches of a grid. `put` of a
 //! region and `exchange_patch` make the steps of one part. The functions of `laws.rt` are there only for their contracts, and are not
 //! part of this package. A clause that begins with `(steps : List ..)` holds for every list of steps. [The page
 //! above](super) explains the marks and the names.
@@ -84,36 +84,53 @@
 //!       IsPutAlone plan k (numbers_below (plan.width * plan.height)) blank) lists → IsInterleaved lists all →
 //!       IsTranspose plan.width plan.height input (after_puts old (puts_of item all)) × (length all ≡ plan.width *
 //!       plan.height)
-//! fn exchanges_of_part<M: Places>(m: M, plan: RowPairs, number: usize) -> M
+//! fn exchanges_of_part<M: Places>(m: M, plan: ReversalPlan, number: usize) -> M
 //!   requires below: number < parts_of plan
-//!   requires ready: HoldsRows plan.rows.width plan.rows.digits (M.items m)
+//!   requires plan: IsReversalPlan (length (M.items m)) plan
+//!   requires len_fits: length (M.items m) < 2 ^ 64
 //!   ensures: (steps : List (ℕ × ℕ)) × (M.items result ≡ after_swaps (M.items m) steps) × IsMadeAlone plan number
 //!       (M.items m) steps
-//! fn reversal_in_parts<T>(plan: RowPairs)
+//! fn reversal_in_parts<T>(plan: ReversalPlan)
 //!   ensures stay: (len number : ℕ) (steps : List (ℕ × ℕ)) → number < parts_of plan → IsReversalPlan len plan →
 //!       IsMadeAlone plan number (numbers_below len) steps → AreOnceAmong (IsPlaceOfPart plan number) (places_swapped
 //!       steps)
 //!   ensures apart: (i j : ℕ) → i ≢ j → NoPlaceInCommon (IsPlaceOfPart plan i) (IsPlaceOfPart plan j)
 //!   ensures whole: (old : List T) (lists : List (List (ℕ × ℕ))) (all : List (ℕ × ℕ)) → IsReversalPlan (length old)
 //!       plan → AreOfParts (parts_of plan) (λ k. IsMadeAlone plan k (numbers_below (length old))) lists → IsInterleaved
-//!       lists all → IsRowReversal plan.rows.width old (after_swaps old all) × (length all ≡ row_swaps (length old)
-//!       plan.rows.width)
+//!       lists all → IsRowReversal (width_of plan) old (after_swaps old all) × (length all ≡ row_swaps (length old)
+//!       (width_of plan))
 //! fn put_all_parts<C: Cells, R: Source<Item = C::Item> + Copy, O: PutRegion>(out: C, source: R, plan: TransposePlan,
 //!     order: O) -> C
 //!   requires input_fits: length (R.items source) ≡ plan.width * plan.height
 //!   requires output_fits: length (C.items out) ≡ plan.width * plan.height
 //!   ensures transposed: IsTranspose plan.width plan.height (R.items source) (C.items result)
 //!   ensures holder: C.same_holder (plan.width * plan.height) out result
-//! fn exchange_all_parts<M: Places>(m: M, plan: RowPairs) -> M
-//!   requires ready: HoldsRows plan.rows.width plan.rows.digits (M.items m)
-//!   ensures reversed: IsRowReversal plan.rows.width (M.items m) (M.items result)
-//!   ensures holder: M.same_holder (row_swaps (length (M.items m)) plan.rows.width) m result
+//! fn exchange_all_parts<M: Places>(m: M, plan: ReversalPlan) -> M
+//!   requires plan: IsReversalPlan (length (M.items m)) plan
+//!   requires len_fits: length (M.items m) < 2 ^ 64
+//!   ensures reversed: IsRowReversal (width_of plan) (M.items m) (M.items result)
+//!   ensures holder: M.same_holder (row_swaps (length (M.items m)) (width_of plan)) m result
 //! fn cells_follow(plan: TransposePlan, number: usize)
 //!   requires columns: plan.by_rows ≡ false
 //!   requires below: number < parts_in plan.cut.len plan.cut.part_len
 //!   ensures: (p : ℕ) → IsPlaceOfRegion (region_of plan number) plan.height p ↔ ((start_of plan.cut.len
 //!       plan.cut.part_len number * plan.height ≤ p) × (p < start_of plan.cut.len plan.cut.part_len (number + 1) *
 //!       plan.height))
+//! ```
+//!
+//! # `parts/reversal.rt`
+//!
+//! ```text
+//! enum ReversalPlan { /// The number of items, and that of the items of each row. The call is the only part. If there
+//!     /// are no items, there is no part. Whole(usize, usize), /// Each patch of these pairs is a part.
+//!     Patches(RowPairs) }
+//! fn ReversalPlan::new(len: usize, row_width: usize, parts: Option<usize>) -> ReversalPlan
+//!   requires: FitsRows len row_width
+//!   ensures width: width_of result ≡ row_width
+//!   ensures plan: IsReversalPlan len result
+//!   ensures cut: IsCutAsAsked len parts TILE result
+//! fn ReversalPlan::count(self) -> usize
+//!   ensures: result ≡ parts_of self
 //! ```
 //!
 //! # `parts/transpose.rt`

@@ -4,7 +4,7 @@ use Rattle.p3_util_kernels.proofs.PlacesLemmas.WrittenPlaces.{AreOnceAmong-weake
 use Rattle.p3_util_parts.proofs.parts.laws.reversal_in_parts.Goals as goal
 
 pub returns-clause-stay : goal.returns-clause-stay
-returns-clause-stay g c len number steps less of alone = AreOnceAmong-weaker _ _ _ (λ p at. at.0) (swaps-stay c.args.plan len number steps of alone)
+returns-clause-stay g c len number steps less of alone = AreOnceAmong-weaker _ _ _ (λ p at. at.0) (swaps-stay c.args.plan len number steps less of alone)
 
 pub returns-clause-apart : goal.returns-clause-apart
 returns-clause-apart g c = parts-apart c.args.plan
