@@ -4,7 +4,12 @@ use std::boxed::Box;
 use std::fmt::Debug;
 use std::vec::Vec;
 
-use super::transposed;
+use super::{Aligned, transposed};
+use crate::kernels::lines::Lines;
+use crate::kernels::places::{Block, Cells, Source};
+use crate::kernels::registers::Two;
+use crate::kernels::transpose::{Matrix, PutRegion};
+use crate::slices::holders::{SliceItems, SliceSource};
 use crate::slices::parts::{TransposePart, transpose};
 
 /// Transposes a matrix in some parts, and compares each item of the output with that of the definition. `input` and
@@ -117,4 +122,46 @@ fn padding_and_pointers() {
     transposes([40, 64], [1, 3], 3, |number| &TEXT[number % 128]);
     transposes([40, 64], [1, 3], 3, |number| (number as u8, number as u32));
     transposes([40, 64], [1, 3], 3, |number| (number % 3 > 0).then_some(number as u16));
+}
+
+/// Counts the lines that a holder may stream, and puts nothing.
+struct Streamed<'a> {
+    cells: SliceItems<'a, u32, Two<()>, true>,
+    lines: usize,
+}
+
+impl Cells for Streamed<'_> {
+    type Item = u32;
+
+    fn len(&self) -> usize {
+        Cells::len(&self.cells)
+    }
+
+    fn put(&mut self, _: usize, _: u32) {}
+
+    fn put_block<R: Source<Item = u32>>(&mut self, _: &R, block: Block) {
+        self.lines += block.cols * usize::from(self.cells.may_stream(block));
+    }
+}
+
+/// Every cache line that lies within a column is streamed, wherever in a line the list begins.
+#[test]
+fn lines_at_all_offsets() {
+    for (before, width, height) in (0..16).flat_map(|before| (1..=48).map(move |height| (before, 12, height))) {
+        let (source, mut list) = ([0; 12 * 48], Aligned([0; 600]));
+        let len = width * height;
+        SliceItems::new(&mut list.0[before..before + len]).past_caches(|cells| {
+            let matrix = Matrix::new(SliceSource::new(&source[..len]), width, height);
+            let put = Lines::new(16, before).put(Streamed { cells, lines: 0 }, matrix, matrix.whole());
+            let within = |x: usize| {
+                let first = before + x * height;
+                ((first + height) / 16).saturating_sub(first.div_ceil(16))
+            };
+            assert_eq!(
+                put.lines,
+                (0..width).map(within).sum(),
+                "{height} rows from {before} on"
+            );
+        });
+    }
 }
