@@ -103,6 +103,38 @@
 //! AreRows block r input (row ∷ rows) = (row.now ≡ take block.cols (drop (block.from + r * block.width) input)) × AreRows block (r + 1) input rows
 //! ```
 //!
+//! # Definitions: Crossing
+//!
+//! ```text
+//! -- Rows that a reversal exchanges. These definitions serve private contracts: those of the kernels in
+//! -- `src/reverse/rows.rt`.
+//! --
+//! -- There are `2 ^ (half + c)` rows of `row_width` items, where c is `half` or `half + 1`. As
+//! -- `src/reverse/rows.rt` explains, the index of a row has three parts: `half` high binary digits,
+//! -- whose reverse is x; then `c - half` digits `middle`; and then `half` low digits y. The row is
+//! -- exchanged with the row for which x and y are swapped.
+//! -- Source: new.
+//!
+//! -- the index of the row with these three parts: x reversed, `middle` and y
+//! abbrev pub row_of : (half c middle x y : ℕ) → ℕ
+//! row_of half c middle x y = rev half x * 2 ^ c + (middle * 2 ^ half + y)
+//!
+//! -- m, x and y are the parts of the index of a row, and t is the index of an item in the row
+//! pub record IsRowItem (half c row_width m t x y : ℕ) : Type 0 where
+//!   pub middle : m < 2 ^ (c - half)
+//!   pub item : t < row_width
+//!   pub high : x < 2 ^ half
+//!   pub low : y < 2 ^ half
+//!
+//! -- the list has `2 ^ digits` rows of `row_width` items, its length fits in a usize, and `row_width`
+//! -- is at least 1
+//! pub record HoldsRows {A : Type 0} (row_width digits : ℕ) (items : List A) : Type 0 where
+//!   pub wide : 0 < row_width
+//!   pub few : digits < 64
+//!   pub rows : length items ≡ row_width * 2 ^ digits
+//!   pub len_fits : length items < 2 ^ 64
+//! ```
+//!
 //! # Definitions: Digits
 //!
 //! ```text
@@ -171,6 +203,67 @@
 //!   pub same_length : length new ≡ length old
 //!   pub turned : (r c : ℕ) → r < 8 → c < 8 → 8 * min r c + max r c < n → slice_get new (slice_index x r + c) ≡ slice_get old (slice_index x c + r)
 //!   pub others : (p : ℕ) → ((r c : ℕ) → r < 8 → c < 8 → 8 * min r c + max r c < n → p ≢ slice_index x r + c) → slice_get new p ≡ slice_get old p
+//! ```
+//!
+//! # Definitions: Grid
+//!
+//! ```text
+//! -- Squares of a list whose rows are in order or in bit-reversed order, exchanged across the diagonal.
+//! -- These definitions serve the private contracts of `src/grid.rt`.
+//! -- Source: new.
+//!
+//! -- the place at which row x of the grid begins
+//! unfoldable pub row_place : (grid : Grid) (x : ℕ) → ℕ
+//! row_place grid x = grid.base + (if grid.reversed then rev grid.digits x else x) * grid.stride
+//!
+//! -- all places of the grid fit in a usize
+//! pub record PlacesFit (grid : Grid) : Type 0 where
+//!   pub few : grid.digits < 64
+//!   pub rows : (a : ℕ) → a < 2 ^ grid.digits → row_place grid a + 2 ^ grid.digits ≤ 2 ^ 64
+//!
+//! -- the place p is in row x of the grid, and 8 divides x
+//! pub record IsInFirstRow (grid : Grid) (p : ℕ) : Type 0 where
+//!   pub x : ℕ
+//!   pub y : ℕ
+//!   pub whole : x % 8 ≡ 0
+//!   pub x_below : x + 8 ≤ 2 ^ grid.digits
+//!   pub y_below : y < 2 ^ grid.digits
+//!   pub is : p ≡ row_place grid x + y
+//!
+//! -- for the 8 rows from row x on, where 8 divides x: how far from row x they begin. Each binary digit
+//! -- of the number of a row adds its own distance
+//! abbrev pub AreRowDistances : (grid : Grid) (distances : RowDistances) → Type 0
+//! AreRowDistances grid distances =
+//!     (x t : ℕ) → x % 8 ≡ 0 → x + 8 ≤ 2 ^ grid.digits → t < 8
+//!     → row_place grid (x + t) ≡ row_place grid x + (t % 2 * distances.one + t / 2 % 2 * distances.two + t / 4 * distances.four)
+//!
+//! -- A place of the grid is the index of a run of `width` items. For all a and b that are different and
+//! -- whose lesser one is a row and whose greater one is a column of the region, the items of row a and
+//! -- column b are exchanged with those of row b and column a. All other items stay where they are
+//! abbrev pub SwapsInGrid : {A : Type 0} (grid : Grid) (region : Region) (old new : List A) → Type 0
+//! SwapsInGrid grid region old new =
+//!     Mirrored {M = ℕ} (λ t a b. (row_place grid a + b) * grid.width + t)
+//!     (λ t a b. ((t < grid.width) × (a < 2 ^ grid.digits) × (b < 2 ^ grid.digits)) × IsInRegion region (max a b) (min a b)) old new
+//!
+//! -- the square of `size` rows and `size` columns from `start` on
+//! abbrev pub square_at : (start size : ℕ) → Region
+//! square_at start size = record { row_start = start; row_end = start + size; col_start = start; col_end = start + size }
+//!
+//! -- The list has all places of the grid, no two rows of which overlap. Its length fits in a usize, and
+//! -- `width` is at least 1
+//! pub record HoldsGrid {A : Type 0} (grid : Grid) (items : List A) : Type 0 where
+//!   pub few : grid.digits < 64
+//!   pub wide : 0 < grid.width
+//!   pub room : (a : ℕ) → a < 2 ^ grid.digits → (row_place grid a + 2 ^ grid.digits) * grid.width ≤ length items
+//!   pub apart : (a b : ℕ) → a < b → b < 2 ^ grid.digits
+//!       → (row_place grid a + 2 ^ grid.digits ≤ row_place grid b) ⊎ (row_place grid b + 2 ^ grid.digits ≤ row_place grid a)
+//!   pub len_fits : length items < 2 ^ 64
+//!
+//! -- There are `2 ^ (half + c)` rows of `row_width` items. This is the grid of those rows whose index has
+//! -- `middle` between its `half` high and its `half` low bits: row x and column y of the grid are the row
+//! -- whose index has x reversed, `middle` and y
+//! abbrev pub grid_of_rows : (half c row_width middle : ℕ) → Grid
+//! grid_of_rows half c row_width middle = record { width = row_width; base = middle * 2 ^ half; stride = 2 ^ c; digits = half; reversed = true }
 //! ```
 //!
 //! # Definitions: Least
@@ -315,6 +408,21 @@
 //! -- the least e with `n ≤ 2 ^ e`. This is the number of powers of two below n
 //! unfoldable pub clog : ℕ → ℕ
 //! clog n = sum_below n (λ e. if nat_lt (2 ^ e) n then 1 else 0)
+//! ```
+//!
+//! # Definitions: Mirrored
+//!
+//! ```text
+//! -- Items of a list exchanged with their mirror images. A place has a fixed part `m` and two numbers,
+//! -- and its mirror image has the same two numbers in the other order. This definition serves only
+//! -- private contracts.
+//!
+//! -- If S holds for m, x and y, the item at `place m x y` comes from `place m y x`. Every other place
+//! -- keeps its item.
+//! pub record Mirrored {A M : Type 0} (place : M → ℕ → ℕ → ℕ) (S : M → ℕ → ℕ → Type 0) (old new : List A) : Type 0 where
+//!   pub same_length : length new ≡ length old
+//!   pub crossed : (m : M) (x y : ℕ) → S m x y → slice_get new (place m x y) ≡ slice_get old (place m y x)
+//!   pub others : (k : ℕ) → ((m : M) (x y : ℕ) → S m x y → k ≢ place m x y) → slice_get new k ≡ slice_get old k
 //! ```
 //!
 //! # Definitions: Names
