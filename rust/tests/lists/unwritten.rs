@@ -2,6 +2,7 @@
 //! `rust/test` also runs these tests under valgrind, which reports each branch, each address and each result that depends on
 //! such a byte.
 
+use std::hint::black_box;
 use std::mem::MaybeUninit;
 
 use p3_util_proved::parts::{self, ReversalPart, TransposePart};
@@ -153,4 +154,17 @@ fn whole_items() {
         ($($bytes:literal)*) => { $(moves_unwritten::<$bytes>();)* };
     }
     of!(1 2 3 4 8 12 16 20 32 40 64);
+}
+
+/// What these tests look for: a branch that depends on a byte which was never written. `rust/test` looks whether valgrind
+/// reports it.
+#[test]
+#[ignore = "valgrind has to report it"]
+fn branch_on_an_item() {
+    with_unwritten::<4>(64, |items| {
+        // SAFETY: the byte is within the list. That it was never written is the fault.
+        if unsafe { items.as_ptr().cast::<u8>().read_volatile() } == 7 {
+            black_box(items);
+        }
+    });
 }
