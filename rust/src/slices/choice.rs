@@ -61,8 +61,6 @@ const ROWS_LONG_LIST: usize = 1 << 19;
 /// With the feature `checked`, a matrix with columns of so many bytes is put by blocks of 16 rows.
 const ROWS_LONG_COLUMN: usize = 1 << 9;
 
-const IS_AARCH64: bool = cfg!(target_arch = "aarch64");
-
 /// How a whole call is put that needs no strips.
 #[derive(Clone, Copy, Debug, PartialEq, Eq)]
 pub(super) enum ShortChoice {
@@ -164,9 +162,8 @@ pub(super) fn row_blocks_of(size: usize, width: usize, height: usize) -> Option<
 #[inline(always)]
 pub(super) const fn side_of(size: usize) -> usize {
     match size {
-        1 | 2 if USES_REGISTERS => 8,
-        4 | 8 if USES_REGISTERS && IS_AARCH64 => 8,
-        4 | 8 if USES_REGISTERS => 4,
+        4 | 8 if USES_REGISTERS && cfg!(target_arch = "x86_64") => 4,
+        1 | 2 | 4 | 8 if USES_REGISTERS => 8,
         _ => 1,
     }
 }

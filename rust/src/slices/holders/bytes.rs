@@ -3,7 +3,7 @@
 use core::mem::MaybeUninit;
 use core::sync::atomic::{Ordering, compiler_fence};
 
-use super::registers;
+use super::registers::{self, Widest};
 
 /// Whether this processor moves unaligned bytes as fast as aligned ones. Otherwise each item is moved as its type says. On
 /// some systems, rustc moves unaligned bytes of aarch64 one by one. `rust/test` makes a build in which it is false.
@@ -83,8 +83,8 @@ pub(super) unsafe fn swap_bytes(x: *mut u8, y: *mut u8, len: usize) {
 }
 
 /// Copies the `len` bytes at `from` to `to`, except for the first `done`, which is a multiple of 16. If `BACK` is true, it
-/// also copies those at `to` to `from`. From the lowest address on, it moves parts of 16 bytes, and then one of 8, 4, 2 and
-/// 1 bytes for each digit of `len` that is set: up to 15 single bytes would take longer.
+/// also copies those at `to` to `from`. From the lowest address on, it moves parts of 16 bytes, with AVX of 32, and then one
+/// of each smaller power of two that is a digit of the rest: up to 15 single bytes would take longer.
 ///
 /// # Safety
 ///
@@ -95,9 +95,10 @@ pub(super) unsafe fn move_bytes<const BACK: bool>(from: *mut u8, to: *mut u8, do
     let mut done = done;
     // SAFETY: each part is within the `len` bytes.
     unsafe {
-        while len - done >= 16 {
-            done += move_part::<registers::Vector, BACK>(from.add(done), to.add(done), 16);
+        while len - done >= size_of::<Widest>() {
+            done += move_part::<Widest, BACK>(from.add(done), to.add(done), size_of::<Widest>());
         }
+        done += move_part::<registers::Vector, BACK>(from.add(done), to.add(done), len - done);
         done += move_part::<registers::Half, BACK>(from.add(done), to.add(done), len);
         done += move_part::<MaybeUninit<u32>, BACK>(from.add(done), to.add(done), len);
         done += move_part::<MaybeUninit<u16>, BACK>(from.add(done), to.add(done), len);

@@ -44,6 +44,12 @@ pub(crate) const USES_REGISTERS: bool = processor::HAS_REGISTERS && MOVES_BYTES 
 /// 16 bytes.
 pub(crate) type Vector = MaybeUninit<processor::Raw>;
 
+/// 16 bytes, or with AVX 32.
+#[cfg(all(target_arch = "x86_64", target_feature = "avx"))]
+pub(super) type Widest = MaybeUninit<core::arch::x86_64::__m256i>;
+#[cfg(not(all(target_arch = "x86_64", target_feature = "avx")))]
+pub(super) type Widest = Vector;
+
 /// 8 bytes.
 pub(crate) type Half = MaybeUninit<processor::Half>;
 
