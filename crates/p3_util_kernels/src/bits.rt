@@ -1,7 +1,7 @@
 //! Logarithms and powers of integers, the reversal of their binary digits, and the short names of
 //! types.
 
-ghost use Rattle.std.specs.Prelude.{◌≡◌, ℕ, ◌+◌, ◌*◌, ◌^◌, ◌<◌, ◌≤◌, ◌↔◌, IsTrue, SomeIff, length, slice_index};
+ghost use Rattle.std.specs.Prelude.{◌≡◌, ℕ, ◌+◌, ◌-◌, ◌*◌, ◌^◌, ◌<◌, ◌≤◌, ◌↔◌, IsTrue, SomeIff, length, slice_index};
 ghost use Rattle.p3_util_kernels.specs.Powers.{HasLog2, HasLog3, IsPowerOfThree};
 ghost use Rattle.p3_util_kernels.specs.Logarithms.{clog};
 
@@ -71,6 +71,7 @@ pub const fn log2_ceil_usize(n: usize) -> usize
     ensures enough { n ≤ 2 ^ result }
     ensures least { (e : ℕ) → n ≤ 2 ^ e → result ≤ e }
     ensures near { 0 < n → 2 ^ result < 2 * n }
+    ensures tight { 1 < n → 2 ^ (result - 1) < n }
     ensures counted { result ≡ clog n }
     ensures bound { result ≤ 64 }
 {
@@ -99,6 +100,7 @@ pub const fn log2_ceil_u64(n: u64) -> u64
     ensures enough { n ≤ 2 ^ result }
     ensures least { (e : ℕ) → n ≤ 2 ^ e → result ≤ e }
     ensures near { 0 < n → 2 ^ result < 2 * n }
+    ensures tight { 1 < n → 2 ^ (result - 1) < n }
     ensures bound { result ≤ 64 }
 {
     log2_ceil_usize(n as usize) as u64

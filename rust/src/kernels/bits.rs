@@ -71,6 +71,7 @@ static EXPONENTS_OF_THREE: [u8; 64] = [
 /// ensures enough { n ≤ 2 ^ result }
 /// ensures least { (e : ℕ) → n ≤ 2 ^ e → result ≤ e }
 /// ensures near { 0 < n → 2 ^ result < 2 * n }
+/// ensures tight { 1 < n → 2 ^ (result - 1) < n }
 /// ensures counted { result ≡ clog n }
 /// ensures bound { result ≤ 64 }
 /// ```
@@ -110,6 +111,7 @@ pub const fn log2_floor_usize(n: usize) -> usize {
 /// ensures enough { n ≤ 2 ^ result }
 /// ensures least { (e : ℕ) → n ≤ 2 ^ e → result ≤ e }
 /// ensures near { 0 < n → 2 ^ result < 2 * n }
+/// ensures tight { 1 < n → 2 ^ (result - 1) < n }
 /// ensures bound { result ≤ 64 }
 /// ```
 #[inline]

@@ -51,6 +51,13 @@ pub below_double : (n e : ℕ) → ((d : ℕ) → n ≤ 2 ^ d → e ≤ d) → 0
 below_double n zero least some = omega arith
 below_double n (suc e) least some = grind (arith, pow-suc 2 e, least e)
 
+-- the exponent before the least one has a power below n
+pub tight_below : (n e : ℕ) → ((d : ℕ) → n ≤ 2 ^ d → e ≤ d) → 1 < n → 2 ^ (e - 1) < n
+tight_below n zero least some = some
+tight_below n (suc e) least some =
+    let one : suc e - 1 ≡ e = omega arith in
+    rw one (grind (arith, least e))
+
 -- the logarithm of a power of two, and of zero
 pub clog_power : (n k : ℕ) → n ≡ 2 ^ k → clog n ≡ k
 clog_power n k e = sym (clog_only n k (omega arith) (λ d h. exponent-le k d (omega arith)))

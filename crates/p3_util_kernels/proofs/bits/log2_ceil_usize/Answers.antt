@@ -1,7 +1,7 @@
 -- The number of digits of n - 1 is the least exponent whose power is at least n.
 use Rattle.std.proofs.Common.{arith}
 use Rattle.std.proofs.lemmas.Nat.{pow_pos}
-use Rattle.p3_util_kernels.proofs.BitsLemmas.Logarithms.{below_double, clog_only}
+use Rattle.p3_util_kernels.proofs.BitsLemmas.Logarithms.{below_double, clog_only, tight_below}
 use Rattle.p3_util_kernels.proofs.BitsLemmas.Powers.{digits_above, digits_least}
 use Rattle.p3_util_kernels.proofs.bits.log2_ceil_usize.Goals as goal
 
@@ -16,3 +16,6 @@ returns-clause-counted c = clog_only _ _ (returns-clause-enough c) (returns-clau
 
 pub returns-clause-near : goal.returns-clause-near
 returns-clause-near c = below_double _ _ (returns-clause-least c)
+
+pub returns-clause-tight : goal.returns-clause-tight
+returns-clause-tight c = tight_below _ _ (returns-clause-least c)
