@@ -20,9 +20,9 @@ HEAD = """\
 # of examples and tests, p3_util_callers, p3_util_transform and p3_util_vectors, are not listed.
 #
 # Below the name of a source are its contracts. All structs are listed, with their private fields, since a clause or a
-# definition may name them. The lines below an implementation of a trait say what a clause sees of that type. The kernels, those
-# on registers and those on parts are listed with the contracts that only their crate sees, because the code of the package
-# that is written by hand trusts some of these, and what is proved of parts stands in them.
+# definition may name them. The lines below an implementation of a trait say what a clause sees of that type. A `hidden fn` is
+# for the crates of this repository alone. It is listed because the code of the package that is written by hand trusts some of
+# these, and what is proved of parts stands in them.
 # What the root of a crate re-exports, such as `p3_util::NoRoom`, is below its src/lib.rt.
 #
 # The contracts of a crate are followed by the files of its definitions, each with the names that it defines. The file has the
@@ -52,7 +52,8 @@ def line(indent, code):
 
 def function(indent, owner, declared):
     """The lines of a function: its head, with the owner before its name, and its clauses."""
-    return [line(indent, f"fn {owner}{declared.head[3:]}"), *(line(indent + 2, f"{title}: {said}") for title, said in declared.clauses)]
+    mark = "hidden " if declared.seen_by == "pub(crate)" else ""
+    return [line(indent, f"{mark}fn {owner}{declared.head[3:]}"), *(line(indent + 2, f"{title}: {said}") for title, said in declared.clauses)]
 
 
 def members(outer):
