@@ -201,10 +201,22 @@ pub fn log_of_product(rows: usize, cols: usize) -> Option<usize>
     checked_pow2(all).map(|_| all)
 }
 
-/// `2^k`. As a function of its own it has no remainder in its contract, which a shift has.
-pub fn power_of(k: usize) -> usize
-    requires { k < 64 }
-    ensures { result ≡ 2 ^ k }
+/// The two sides of a matrix of `n` items, as equal as powers of two can be.
+#[tactic(auto, using(p3_util::proofs::Callers::power_in_parts, p3_util::proofs::Callers::shifted_one))]
+pub fn sides_of(n: usize) -> (usize, usize)
+    requires { HasLog2 n }
+    ensures { result.0 * result.1 ≡ n }
 {
-    1 << k
+    let k = log2_strict_usize(n);
+    (1usize << (k / 2), 1usize << (k - k / 2))
+}
+
+/// The least number of halvings after which at most one of `n` items is left. One halving less
+/// leaves more.
+pub fn rounds_to_one(n: usize) -> usize
+    requires { 1 < n }
+    ensures enough { n ≤ 2 ^ result }
+    ensures needed { 2 ^ (result - 1) < n }
+{
+    log2_ceil_usize(n)
 }

@@ -8,7 +8,6 @@ ghost use Rattle.p3_util.specs.Digits.{rev};
 ghost use Rattle.p3_util.specs.Least.{AllDiffer};
 ghost use Rattle.p3_util.specs.Reversal.{FitsRows, IsReversible};
 
-use crate::bits::power_of;
 use p3_util::reverse::{reverse_slice_index_bits, reverse_slice_row_index_bits};
 use p3_util::transpose::transpose;
 
@@ -106,7 +105,7 @@ pub fn greatest_after_rows(vals: &mut [u64], width: usize) -> Option<u64>
 
 /// Writes the transpose of a matrix of `2^b` rows of `2^a` items to `output`, and reverses it by
 /// index bits. The contract says which item is at a place then.
-#[tactic(auto, using(p3_util::proofs::Callers::reversed_place, p3_util::proofs::Callers::product_of_powers))]
+#[tactic(auto, using(p3_util::proofs::Callers::reversed_place, p3_util::proofs::Callers::product_of_powers, p3_util::proofs::Callers::shifted_one))]
 pub fn transpose_then_reverse<T: Copy>(input: &[T], output: &mut [T], a: usize, b: usize)
     requires few { a + b < 64 }
     requires input_fits { length input.now ≡ 2 ^ a * 2 ^ b }
@@ -115,6 +114,6 @@ pub fn transpose_then_reverse<T: Copy>(input: &[T], output: &mut [T], a: usize, 
         → rev (a + b) p ≡ x * 2 ^ b + y
         → slice_get output.new p ≡ slice_get input.now (y * 2 ^ a + x) }
 {
-    transpose(input, output, power_of(a), power_of(b));
+    transpose(input, output, 1 << a, 1 << b);
     reverse_slice_index_bits(output);
 }

@@ -93,6 +93,44 @@ pub fn define_key<K: Eq + Copy + Drop, V: Copy>(
     table.insert(key, value)
 }
 
+/// Gives `symbol` another offset through `get_mut`, if it is in the table. Returns whether it is.
+#[tactic(auto, using(p3_util::proofs::Callers::put_found, p3_util::proofs::Callers::put_others))]
+pub fn redefine(table: &mut LinearMap<u32, u64>, symbol: u32, offset: u64) -> bool
+    ensures known { IsTrue result ↔ IsSome (value_at nat_eq table.old symbol) }
+    ensures found { IsTrue result → value_at nat_eq table.new symbol ≡ Some offset }
+    ensures others { (other : ℕ) → other ≢ symbol
+        → value_at nat_eq table.new other ≡ value_at nat_eq table.old other }
+{
+    match table.get_mut(&symbol) {
+        Some(value) => {
+            *value = offset;
+            true
+        }
+        None => false,
+    }
+}
+
+/// The same for keys of any type.
+#[tactic(auto, using(p3_util::proofs::Callers::put_found, p3_util::proofs::Callers::put_others))]
+pub fn redefine_key<K: Eq + Copy, V: Copy>(
+    table: &mut LinearMap<K, V>,
+    key: &K,
+    value: V,
+) -> bool
+    ensures known { IsTrue result ↔ IsSome (value_at K.eq table.old key.now) }
+    ensures found { IsTrue result → value_at K.eq table.new key.now ≡ Some value }
+    ensures others { (other : K) → K.eq key.now other ≡ false
+        → value_at K.eq table.new other ≡ value_at K.eq table.old other }
+{
+    match table.get_mut(key) {
+        Some(held) => {
+            *held = value;
+            true
+        }
+        None => false,
+    }
+}
+
 /// Defines `symbol` as `first` and then as `second`. The first definition is lost.
 #[tactic(auto, using(p3_util::proofs::Callers::put_put))]
 pub fn define_twice(

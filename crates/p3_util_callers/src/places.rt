@@ -1,7 +1,7 @@
 //! Callers of the counters, and of the steps of a holder on some places of a list, and a counter
 //! that a caller defines. A holder is a value that gives access to a list only by index.
 
-ghost use Rattle.std.specs.Prelude.{◌≡◌, ◌+◌, ◌*◌, ◌/◌, ◌^◌, ◌<◌, length, swap};
+ghost use Rattle.std.specs.Prelude.{◌≡◌, ◌+◌, ◌*◌, ◌/◌, ◌%◌, ◌^◌, ◌<◌, length, map, slice_set, swap};
 ghost use Rattle.std.proofs.Common.{rules};
 ghost use Rattle.p3_util.specs.ItemsAt.{items_at};
 ghost use Rattle.p3_util.specs.Steps.{counted};
@@ -85,4 +85,38 @@ where
     transpose_on(input, &mut out, width, height);
     let outer = out.writes();
     (outer, out.into_inner().count)
+}
+
+/// Cells of 32 bits that are kept in 64 bits, such as field elements before a sum.
+#[derive(Drop)]
+pub struct Widened<'a> {
+    out: &'a mut [u64],
+}
+
+impl<'a> Cells for Widened<'a> {
+    type Item = u32;
+
+    ghost items = { λ s. map (λ x. x % 2 ^ 32) s.out.now };
+
+    ghost same_holder = { λ n a b. a.out.ghost_name ≡ b.out.ghost_name };
+
+    fn len(&self) -> usize {
+        self.out.len()
+    }
+
+    fn put(&mut self, i: usize, v: u32) {
+        put_widened(self.out, i, v);
+    }
+
+    ghost same_holder_refl = { Prim.search rules };
+
+    ghost same_holder_trans = { Prim.search rules };
+}
+
+#[tactic(auto, using(p3_util::proofs::Callers::mapped_set))]
+fn put_widened(out: &mut [u64], i: usize, v: u32)
+    requires { i < length out.old }
+    ensures { map (λ x. x % 2 ^ 32) out.new ≡ slice_set (map (λ x. x % 2 ^ 32) out.old) i v }
+{
+    out[i] = u64::from(v);
 }

@@ -52,6 +52,19 @@ pub fn transpose_and_count<T: Copy>(
     transpose_counted(input, &mut SliceCells::new(output), width, height)
 }
 
+/// Writes the two halves of `input` to the even and the odd places of `output`. The clauses state a
+/// place as those of the transpose do, even in column 0.
+pub fn interleave<T: Copy>(input: &[T], output: &mut [T], half: usize)
+    requires input_fits { length input.now ≡ half * 2 }
+    requires output_fits { length output.old ≡ half * 2 }
+    ensures even { (i : ℕ) → i < half
+        → slice_get output.new (i * 2 + 0) ≡ slice_get input.now (0 * half + i) }
+    ensures odd { (i : ℕ) → i < half
+        → slice_get output.new (i * 2 + 1) ≡ slice_get input.now (1 * half + i) }
+{
+    transpose(input, output, half, 2);
+}
+
 /// Transposes `matrix` into `scratch` and back. This leaves `matrix` as it was and its transpose in
 /// `scratch`.
 #[tactic(auto, using(p3_util::proofs::Callers::transposed_back))]

@@ -32,6 +32,20 @@ pub fn weighted(
     pairs.collect(alloc).map_err(|_| PairError::Memory)
 }
 
+/// `factor * x + y` for each pair of items. The `collect` is the last expression: the list is not
+/// known of `Ok(..collect(alloc)?)`.
+///
+/// # Errors
+///
+/// `AllocError` if the lengths differ or there is no memory for the result.
+pub fn combined(alloc: Global, factor: u32, xs: &[u32], ys: &[u32]) -> Result<Vec<u64>, AllocError>
+    ensures { IfOk result (λ v. v.items ≡ map (λ p. factor * p.0 + p.1) (zip xs.now ys.now)) }
+{
+    zip_eq(xs.iter().copied(), ys.iter().copied(), AllocError)?
+        .map(|(x, y)| u64::from(factor) * u64::from(x) + u64::from(y))
+        .collect(alloc)
+}
+
 /// The pairs of two lists, with a contract that states each place: the pair at a place consists of
 /// the two items at it.
 ///

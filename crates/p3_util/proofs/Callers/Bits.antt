@@ -188,6 +188,10 @@ small_power i h =
     let next : 2 ^ (i + 1) ≡ 2 ^ i * 2 = rw add-one (pow-suc 2 i) in
     mod-eq_of_lt (omega (arith, up, next, pow_pos i))
 
+-- a shift of 1, as a clause sees it
+pub shifted_one : (e : ℕ) → e < 64 → 1 * 2 ^ e % 2 ^ 64 ≡ 2 ^ e
+shifted_one e h = grind (arith, small_power e h)
+
 -- Bounds of n by a multiple of a power of two, after the factor is halved and the exponent is one more
 pub halved_within : (n m c : ℕ) → m * 2 ^ c ≤ n → m / 2 * 2 ^ (c + 1) ≤ n
 halved_within n m c h =

@@ -11,7 +11,7 @@ use Rattle.std.specs.Cmp.Lexicographic.{on_texts_equal, pointwise}
 use Rattle.std.specs.Map.{lookup, set_value, values_of}
 use Rattle.std.specs.Option.{UnwrapsOrElse, unwrap_or}
 use Rattle.std.specs.Ordering.{eq_of_both, on}
-use Rattle.p3_util.specs.LinearMap.{put, value_at}
+use Rattle.p3_util.specs.LinearMap.{put, value_at, with_value}
 use Rattle.p3_util.proofs.MapLemmas.{lookup_put}
 
 -- what a look-up finds after `insert`
@@ -84,9 +84,29 @@ module _ {V : Type 0} where
   pub number_others : (pairs : List (ℕ × V)) (k : ℕ) (v : V) (q : ℕ) → q ≢ k → value_at nat_eq (put nat_eq pairs k v) q ≡ value_at nat_eq pairs q
   number_others pairs k v q apart = key_others nat_eq_equiv pairs k v q (ne_eqb k q (λ same. apart (sym same)))
 
-pub ruleset put_found = (key_found, number_found)
+-- what a look-up finds after a write through `get_mut`, which writes only if it finds the key
+known_put : {K V : Type 0} (eq : K → K → Bool) (pairs : List (K × V)) (k : K) (v : V) → IsSome (value_at eq pairs k) → with_value eq pairs k v ≡ put eq pairs k v
+known_put eq pairs k v some = rw some refl
 
-pub ruleset put_others = (key_others, number_others)
+module _ {K V : Type 0} {eq : K → K → Bool} (laws : IsEquivalence eq) where
+  pub key_written : (pairs : List (K × V)) (k : K) (v : V) → IsSome (value_at eq pairs k) → value_at eq (with_value eq pairs k v) k ≡ Some v
+  key_written pairs k v some = ap (λ (m : List (K × V)). value_at eq m k) (known_put eq pairs k v some) ∙ key_found laws pairs k v
+
+  pub key_unwritten : (pairs : List (K × V)) (k : K) (v : V) (q : K) → IsSome (value_at eq pairs k) → eq k q ≡ false
+      → value_at eq (with_value eq pairs k v) q ≡ value_at eq pairs q
+  key_unwritten pairs k v q some apart = ap (λ (m : List (K × V)). value_at eq m q) (known_put eq pairs k v some) ∙ key_others laws pairs k v q apart
+
+module _ {V : Type 0} where
+  pub number_written : (pairs : List (ℕ × V)) (k : ℕ) (v : V) → IsSome (value_at nat_eq pairs k) → value_at nat_eq (with_value nat_eq pairs k v) k ≡ Some v
+  number_written = key_written nat_eq_equiv
+
+  pub number_unwritten : (pairs : List (ℕ × V)) (k : ℕ) (v : V) (q : ℕ) → IsSome (value_at nat_eq pairs k) → q ≢ k
+      → value_at nat_eq (with_value nat_eq pairs k v) q ≡ value_at nat_eq pairs q
+  number_unwritten pairs k v q some apart = key_unwritten nat_eq_equiv pairs k v q some (ne_eqb k q (λ same. apart (sym same)))
+
+pub ruleset put_found = (key_found, number_found, key_written, number_written)
+
+pub ruleset put_others = (key_others, number_others, key_unwritten, number_unwritten)
 
 pub ruleset put_known = (key_known, number_known)
 

@@ -67,7 +67,7 @@ pub part_within : (r m n : ℕ) → r < m → r * n + n ≤ m * n
 part_within r m n h = let up : (r + 1) * n ≤ m * n = mul-le-mul_right n (omega arith) in omega arith
 
 -- the length of row r of a list of whole rows
-row_length : {A : Type 0} (w n r : ℕ) (xs : List A) → length xs ≡ w * n → r < n → length (take w (drop (r * w) xs)) ≡ w
+pub row_length : {A : Type 0} (w n r : ℕ) (xs : List A) → length xs ≡ w * n → r < n → length (take w (drop (r * w) xs)) ≡ w
 row_length w n r xs len h =
     let rows : (r + 1) * w ≤ n * w = mul-le-mul_right w (omega arith) in
     length-take-le w (drop (r * w) xs) (omega (arith, length-drop (r * w) xs, len))

@@ -1,6 +1,7 @@
 -- The pair at a place, how many pairs there are, an exchange of two pairs, and a sum that is reduced
 -- at each step.
 use Rattle.std.proofs.Common.{◌≡◌, ℕ, zero, suc, ◌+◌, ◌*◌, ◌/◌, ◌%◌, ◌<◌, min, Some, List, [], ◌∷◌, length, get_or, map, set, slice_get, sum, refl, sym, ap, ◌∙◌, arith}
+use Rattle.std.proofs.lemmas.List.{map-set}
 use Rattle.std.proofs.lemmas.List.Sums.{sum-map}
 use Rattle.std.proofs.Math.Nat.{add-mul-mod_self_right, mod-add-div'}
 use Rattle.std.proofs.lemmas.Slice.Zip.{get_or-zip, length-zip}
@@ -31,6 +32,10 @@ zip_set (x' ∷ xs) [] zero x y = refl
 zip_set (x' ∷ xs) [] (suc i) x y = refl
 zip_set (x' ∷ xs) (y' ∷ ys) zero x y = refl
 zip_set (x' ∷ xs) (y' ∷ ys) (suc i) x y = ap (λ t. (x', y') ∷ t) (zip_set xs ys i x y)
+
+-- a write to one list, and to the list of its items' images by a function
+pub mapped_set : {A B : Type 0} (f : A → B) (xs : List A) (i : ℕ) (v : A) (w : B) → f v ≡ w → map f (set xs i v) ≡ set (map f xs) i w
+mapped_set f xs i v w same = map-set f xs i v ∙ ap (set (map f xs) i) same
 
 -- An exchange in both lists is an exchange of the pairs.
 pub zip_swap : {A B : Type 0} (xs : List A) (ys : List B) (i j : ℕ) → i < length (zip xs ys) → j < length (zip xs ys)
