@@ -4,6 +4,8 @@
 //! First the rows are put into the order of reversed index bits, in parts. Then each stage joins transforms of half the
 //! length in pairs: a row is joined with the row half a block behind it, in all columns. The threads take runs of such
 //! rows from a queue.
+//!
+//! Only systems of 64 bits have parts.
 
 use std::collections::HashSet;
 use std::iter::{from_fn, once};

@@ -1,6 +1,7 @@
 //! A holder of your own. A holder is a value that gives access to a list only by index. This one has records whose
 //! fields lie in two lists. The calls of `kernels` reverse it and count their swaps.
 
+use p3_util_proved::kernels::Index;
 use p3_util_proved::kernels::places::{Places, Swaps};
 use p3_util_proved::kernels::reverse::{fits_rows, reverse_counted, reverse_index_bits_on, reverse_rows_counted};
 use p3_util_proved::reverse_bits_len;
@@ -22,14 +23,16 @@ impl Records {
 }
 
 /// What a kernel needs from a holder: how many places it has, and a way to exchange two of them.
+#[allow(clippy::unnecessary_cast, reason = "on a system of 32 bits, an index is a `u64`")]
 impl Places for Records {
     type Item = (usize, String);
 
-    fn len(&self) -> usize {
-        self.numbers.len()
+    fn len(&self) -> Index {
+        self.numbers.len() as Index
     }
 
-    fn exchange(&mut self, i: usize, j: usize) {
+    fn exchange(&mut self, i: Index, j: Index) {
+        let (i, j) = (i as usize, j as usize);
         self.numbers.swap(i, j);
         self.names.swap(i, j);
     }

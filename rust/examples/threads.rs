@@ -2,6 +2,8 @@
 //!
 //! The package starts no thread. It only cuts a call into parts. Here there are as many threads as processors, and each
 //! thread takes one part after another from a queue.
+//!
+//! Only systems of 64 bits have parts.
 
 use std::num::NonZero;
 use std::sync::Mutex;

@@ -1,6 +1,10 @@
 //! The calls on integers that check a condition and then call the proved function.
 
-use crate::kernels::bits as proved;
+#[cfg(target_pointer_width = "64")]
+pub use crate::kernels::bits as proved;
+#[cfg(target_pointer_width = "32")]
+#[path = "bits/narrow.rs"]
+pub mod proved;
 
 /// The logarithm to base 2 of a power of two.
 ///
@@ -43,7 +47,7 @@ pub const fn log3_strict_usize(n: usize) -> usize {
     proved::log3_strict_usize(n)
 }
 
-/// Reverses the k low binary digits of `x` and drops the others, for an `n` of 2^k. An `n` of 1 reverses all 64 digits.
+/// Reverses the k low binary digits of `x` and drops the others, for an `n` of 2^k. An `n` of 1 reverses all digits.
 ///
 /// # Panics
 ///
@@ -58,11 +62,11 @@ pub const fn reverse_bits(x: usize, n: usize) -> usize {
     proved::reverse_bits(x, n)
 }
 
-/// Reverses the `bit_len` low binary digits of `x` and drops the others. A `bit_len` of 0 reverses all 64 digits.
+/// Reverses the `bit_len` low binary digits of `x` and drops the others. A `bit_len` of 0 reverses all digits.
 ///
 /// # Panics
 ///
-/// With debug assertions, if `bit_len` is above 64. Without them, `bit_len % 64` is used.
+/// With debug assertions, if `bit_len` is above `usize::BITS`. Without them, the remainder by that is used.
 ///
 /// # Contract
 #[doc = include_str!("kernels/contracts/reverse_bits_len.txt")]

@@ -31,8 +31,8 @@ extern crate alloc;
 #[cfg(test)]
 extern crate std;
 
-#[cfg(not(target_pointer_width = "64"))]
-compile_error!("p3-util-proved is proved for a usize of 64 bits");
+#[cfg(not(any(target_pointer_width = "64", target_pointer_width = "32")))]
+compile_error!("p3-util-proved needs a usize of 64 or 32 bits");
 
 use alloc::string::String;
 use core::any::type_name;
@@ -59,7 +59,8 @@ mod bits;
 /// | `transpose_square_on`, `transpose_square_counted` | `fits_square(len, base, log_stride, log_size)` |
 ///
 /// A reversal needs [`Places`](kernels::places::Places). A transpose reads from a [`Source`](kernels::places::Source) and
-/// writes to [`Cells`](kernels::places::Cells):
+/// writes to [`Cells`](kernels::places::Cells). This example is for systems of 64 bits. On others, each `usize` of a trait is
+/// an [`Index`](kernels::Index):
 ///
 /// ```
 /// use p3_util_proved::kernels::places::{Cells, Places, Source};
@@ -101,7 +102,11 @@ mod bits;
 #[allow(clippy::manual_is_multiple_of, reason = "the proofs are of `%`")]
 #[allow(clippy::needless_range_loop, reason = "a tile is reached by row and column")]
 #[allow(clippy::only_used_in_recursion, reason = "by the bound, a recursion ends")]
-#[cfg_attr(feature = "checked", allow(dead_code, reason = "no registers"))]
+#[cfg_attr(
+    any(feature = "checked", target_pointer_width = "32"),
+    allow(dead_code, reason = "no registers")
+)]
+#[allow(clippy::unnecessary_cast, reason = "on a system of 32 bits, an index is a `u64`")]
 #[allow(rustdoc::private_intra_doc_links, reason = "seven functions are private here")]
 #[rustfmt::skip]
 pub mod kernels;
@@ -111,18 +116,22 @@ mod memory;
 mod refused;
 mod slices;
 pub mod transpose;
+mod width;
 pub mod zip_eq;
 
-pub use bits::{log2_strict_usize, log3_strict_usize, reverse_bits, reverse_bits_len};
 #[doc(inline)]
-pub use kernels::bits::{
+pub use bits::proved::{
     assert_clone, branch_hint, checked_log_size_sum, checked_pow2, indices_arr, log2_ceil_u64, log2_ceil_usize,
     log2_floor_usize,
 };
+pub use bits::{log2_strict_usize, log3_strict_usize, reverse_bits, reverse_bits_len};
 #[doc(inline)]
 pub use kernels::chunks::apply_to_chunks;
+#[cfg(target_pointer_width = "64")]
 #[doc(inline)]
-pub use slices::{parts, reverse_slice_index_bits, reverse_slice_row_index_bits};
+pub use slices::parts;
+#[doc(inline)]
+pub use slices::{reverse_slice_index_bits, reverse_slice_row_index_bits};
 
 /// Does nothing, but a call compiles only if `T` is `Send`.
 ///

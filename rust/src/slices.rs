@@ -5,31 +5,30 @@
 //! `holders.rs` and its folder, which have all the unsafe code, check no index. With the feature `checked`, the holders of
 //! `checked.rs` are used instead, which check each one. `choice.rs` chooses how a matrix is put: each choice is right
 //! for every matrix. `by_size.rs` and `by_type.rs` choose the instance of a kernel.
+//!
+//! On a system of 32 bits, `narrow.rs` has the holders: those of the kernels, which check each index too.
 
 use crate::kernels::reverse::fits_rows;
 use crate::kernels::transpose::fits_matrix;
-use holders::{SliceItems, SliceSource};
+use crate::width::Index;
+use holders::{SliceItems, SliceSource, WholeList};
 
 mod by_index;
-#[cfg(not(feature = "checked"))]
+#[cfg(not(any(feature = "checked", target_pointer_width = "32")))]
 mod by_size;
 mod by_type;
 mod choice;
-#[cfg_attr(feature = "checked", path = "slices/checked.rs")]
+#[cfg_attr(target_pointer_width = "32", path = "slices/narrow.rs")]
+#[cfg_attr(all(feature = "checked", target_pointer_width = "64"), path = "slices/checked.rs")]
 #[cfg_attr(not(feature = "checked"), allow(unsafe_code))]
 mod holders;
+#[cfg(target_pointer_width = "64")]
 pub mod parts;
 
-#[cfg(not(feature = "checked"))]
+#[cfg(not(any(feature = "checked", target_pointer_width = "32")))]
 use by_size as instances;
-#[cfg(feature = "checked")]
+#[cfg(any(feature = "checked", target_pointer_width = "32"))]
 use by_type as instances;
-
-// With `checked`, a whole list is no range of another one, so no index has to be moved.
-#[cfg(feature = "checked")]
-use crate::kernels::places::SlicePlaces as WholeList;
-#[cfg(not(feature = "checked"))]
-use holders::SliceItems as WholeList;
 
 /// Reverses the order of `vals` by index bits.
 ///
@@ -57,7 +56,7 @@ use holders::SliceItems as WholeList;
 #[inline]
 #[track_caller]
 pub fn reverse_slice_index_bits<F: Send + Sync>(vals: &mut [F]) {
-    if !fits_rows(vals.len(), 1) {
+    if !fits_rows(vals.len() as Index, 1) {
         crate::refuse_rows(vals.len(), 1);
     }
     if size_of::<F>() > 0 {
@@ -85,11 +84,11 @@ pub fn reverse_slice_index_bits<F: Send + Sync>(vals: &mut [F]) {
 #[inline]
 #[track_caller]
 pub fn reverse_slice_row_index_bits<F>(vals: &mut [F], row_width: usize) {
-    if !fits_rows(vals.len(), row_width) {
+    if !fits_rows(vals.len() as Index, row_width as Index) {
         crate::refuse_rows(vals.len(), row_width);
     }
     if size_of_val(vals) > 0 {
-        instances::reverse_rows(WholeList::new(vals), row_width);
+        instances::reverse_rows(WholeList::new(vals), row_width as Index);
     }
 }
 
@@ -121,11 +120,12 @@ pub fn reverse_slice_row_index_bits<F>(vals: &mut [F], row_width: usize) {
 #[inline]
 #[track_caller]
 pub fn transpose<T: Copy + Send + Sync>(input: &[T], output: &mut [T], width: usize, height: usize) {
-    if !fits_matrix(input.len(), output.len(), width, height) {
+    let (rows, cols) = (height as Index, width as Index);
+    if !fits_matrix(input.len() as Index, output.len() as Index, cols, rows) {
         crate::transpose::refuse(input.len(), output.len(), width, height);
     }
     if size_of::<T>() > 0 {
-        instances::transpose(SliceItems::new(output), SliceSource::new(input), width, height);
+        instances::transpose(SliceItems::new(output), SliceSource::new(input), cols, rows);
     }
 }
 

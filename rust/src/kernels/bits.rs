@@ -2,6 +2,9 @@
 //! Logarithms and powers of integers, the reversal of their binary digits, and the short names of
 //! types.
 
+#[cfg(target_pointer_width = "32")]
+use crate::width::Index as usize;
+
 mod digits;
 mod names;
 
@@ -220,7 +223,7 @@ pub(crate) const fn log3_strict_usize(n: usize) -> usize {
 /// ```
 #[inline]
 pub const fn is_power_of_three(n: usize) -> bool {
-    n != 0 && powers_of_three()[exponent_of_three(n.ilog2() as usize)] == n
+    n != 0 && powers_of_three()[(exponent_of_three(n.ilog2() as usize)) as core::primitive::usize] == n
 }
 
 /// The table of all powers of three that fit in a `usize`. The highest set bits of any two of them
@@ -250,7 +253,7 @@ const fn powers_of_three() -> &'static [usize; 41] {
 /// ```
 #[inline]
 const fn exponent_of_three(top: usize) -> usize {
-    EXPONENTS_OF_THREE[top] as usize
+    EXPONENTS_OF_THREE[top as core::primitive::usize] as usize
 }
 
 /// The array `[0, 1, .., N - 1]`, in which each item is its own index.
@@ -265,11 +268,11 @@ const fn exponent_of_three(top: usize) -> usize {
 /// ```
 #[inline]
 #[must_use]
-pub const fn indices_arr<const N: usize>() -> [usize; N] {
+pub const fn indices_arr<const N: core::primitive::usize>() -> [core::primitive::usize; N] {
     let mut indices = [0; N];
     let mut i = 0;
     while i < N {
-        indices[i] = i;
+        indices[i as core::primitive::usize] = i;
         i += 1;
     }
     indices

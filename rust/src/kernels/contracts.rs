@@ -1,7 +1,7 @@
 // rust/erase writes this folder from the proved sources in crates/. Make changes there.
 //! What the names and marks in the contracts mean.
 //!
-//! No function of `kernels` tests its `requires`.
+//! No function of `kernels` tests its `requires`. On a system of 32 bits, read `Index` for `usize`.
 //!
 //! A `requires` is what the caller has to prove, and an `ensures` is what the call promises. The word after `requires` or
 //! `ensures` is the clause's name. A function stands before its arguments, without brackets or commas: `rev k i` is the function

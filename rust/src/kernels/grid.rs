@@ -15,6 +15,8 @@
 //! The exchanges are made in the order of nested squares, down to *tiles* of 8 rows and columns. So
 //! the items of a tile, which lie in a few cache lines, are exchanged together.
 
+#[cfg(target_pointer_width = "32")]
+use crate::width::Index as usize;
 use crate::kernels::bits::{pow2, reverse_bits_len};
 use crate::kernels::places::Places;
 use crate::kernels::transpose::Region;
@@ -365,7 +367,7 @@ fn exchange_diagonal_tile<M: Places>(m: M, grid: Grid, start: usize) -> M {
     }
     for row in 0..TILE {
         for col in row + 1..TILE {
-            m = exchange_places(m, grid.width, places[row] + col, places[col] + row);
+            m = exchange_places(m, grid.width, places[row as core::primitive::usize] + col, places[col as core::primitive::usize] + row);
         }
     }
     m
@@ -436,7 +438,7 @@ pub(crate) fn exchange_square<M: Places>(m: M, grid: Grid, row_by_row: bool) -> 
 #[inline(always)]
 pub(crate) fn reverse_digits(x: usize, digits: usize) -> usize {
     if digits <= 6 {
-        usize::from(REVERSED_SIX[x * (64 >> digits) % 64])
+        usize::from(REVERSED_SIX[(x * (64 >> digits) % 64) as core::primitive::usize])
     } else {
         reverse_bits_len(x, digits)
     }

@@ -3,10 +3,14 @@
 
 pub mod bits;
 pub(crate) mod grid;
+#[cfg(target_pointer_width = "64")]
 pub(crate) mod kernel;
+#[cfg(target_pointer_width = "64")]
 pub(crate) mod lines;
+#[cfg(target_pointer_width = "64")]
 pub(crate) mod parts;
 pub mod places;
+#[cfg(target_pointer_width = "64")]
 pub(crate) mod registers;
 pub mod reverse;
 pub mod transpose;
@@ -17,6 +21,12 @@ mod no_room;
 pub mod zip_eq;
 
 pub use no_room::NoRoom;
+
+/// The type of a place, of a length and of a number of digits: `usize`, and `u64` on a system of 32 bits.
+///
+/// The proofs are about numbers of 64 bits, so kernels compute with them everywhere. Each place that a step names is below the
+/// length of its list, so it keeps its value if a holder converts it to a `usize`.
+pub type Index = crate::width::Index;
 
 pub mod contracts;
 

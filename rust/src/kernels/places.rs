@@ -26,6 +26,9 @@
 //! on a new counter around that reference. A call whose name ends in `_on`, `_short` or `_long` is
 //! given a counter. It runs its kernel on a counter that continues from the given count.
 
+#[cfg(target_pointer_width = "32")]
+use crate::width::Index as usize;
+
 mod counters;
 mod references;
 mod slices;
@@ -112,7 +115,7 @@ pub trait Places {
         len_fits(self.len());
         for r in 0..8 {
             for c in 0..8 {
-                self.exchange(x[r] + c, y[c] + r);
+                self.exchange(x[r as core::primitive::usize] + c, y[c as core::primitive::usize] + r);
             }
         }
     }
@@ -136,7 +139,7 @@ pub trait Places {
         len_fits(self.len());
         for row in 0..8 {
             for col in row + 1..8 {
-                self.exchange(x[row] + col, x[col] + row);
+                self.exchange(x[row as core::primitive::usize] + col, x[col as core::primitive::usize] + row);
             }
         }
     }

@@ -15,6 +15,9 @@
 //! `IsRowReversal`). For the calls that count, the exact number of swaps is proved too. The order
 //! of the swaps is only tested. Which path a call on a slice takes can be seen only in its speed.
 
+#[cfg(target_pointer_width = "32")]
+use crate::width::Index as usize;
+
 // `rows` has the short path, which is that of rows of any width, and `long` has the long path. The
 // module `grid` makes the exchanges of both.
 mod long;
@@ -310,7 +313,7 @@ fn reverse_items<F>(vals: &mut [F]) -> &mut [F] {
 /// ```
 #[inline(always)]
 fn reverse_rows_of_items<F>(vals: &mut [F], row_width: usize) -> &mut [F] {
-    let rows = RowDigits::of(vals.len(), row_width);
+    let rows = RowDigits::of(vals.len() as usize, row_width);
     let SlicePlaces { items } = reverse_rows(SlicePlaces::new(vals), rows);
     items
 }

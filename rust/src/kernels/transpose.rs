@@ -16,6 +16,9 @@
 //! one write. The order of the writes, and the choice of strips on which this order depends, are
 //! only tested.
 
+#[cfg(target_pointer_width = "32")]
+use crate::width::Index as usize;
+
 // `counted` has the calls over any holder and over counters. `regions` defines matrices and regions.
 // `ways` has the ways to put a region, which contain each other. `strips` puts a region strip by strip
 // in such ways: begin at `Strips::by_shape` if you want to change the strips. `order` is what the caller

@@ -1,6 +1,8 @@
 //! Holders that put long items by their indices. They test each index in every build.
 
 use crate::kernels::places::{Cells, Source};
+#[cfg(target_pointer_width = "32")]
+use crate::width::Index as usize;
 
 /// A list of this length, of which each item is its own index. A build without optimization has copies of an item on the
 /// stack in each function that the item goes through. Large items would fill the stack, and their indices do not.

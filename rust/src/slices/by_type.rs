@@ -3,16 +3,29 @@
 
 use super::by_index::{ByIndex, Indices};
 use super::choice::{Choice, LIMITS, LONG_BYTES, ShortChoice, choice_of, short_choice_of, side_of, strips_of};
-#[cfg(feature = "checked")]
+#[cfg(any(feature = "checked", target_pointer_width = "32"))]
 use super::choice::{FEW_ITEMS, row_blocks_of};
+#[cfg(target_pointer_width = "64")]
 use super::parts::RowPlan;
+#[cfg(target_pointer_width = "64")]
 use crate::kernels::kernel;
+#[cfg(target_pointer_width = "64")]
 use crate::kernels::parts::ReversalPlan;
 use crate::kernels::places::{Cells, Places, Source};
+#[cfg(target_pointer_width = "32")]
+use crate::kernels::reverse as kernel;
 use crate::kernels::reverse::{RowDigits, reverse_short};
-#[cfg(not(feature = "checked"))]
+#[cfg(not(any(feature = "checked", target_pointer_width = "32")))]
 use crate::kernels::transpose::Columns;
 use crate::kernels::transpose::{Matrix, Order, PutRegion, Region, put_as_block};
+use crate::width::Index;
+#[cfg(target_pointer_width = "32")]
+use Index as usize;
+
+/// The bytes of an item, as a number of the kernels.
+const fn item_size<T>() -> usize {
+    size_of::<T>() as Index
+}
 
 /// Reverses items by index bits. Their number is zero or a power of two.
 #[inline(never)]
@@ -30,17 +43,17 @@ pub(super) fn reverse_rows(items: impl Places, row_width: usize) {
 /// arguments and no matrix, so that all are in registers and need no room on the stack.
 #[inline(always)]
 pub(super) fn transpose<M: Output>(cells: M, source: impl Input<M::Item>, width: usize, height: usize) {
-    let size = const { size_of::<M::Item>() };
+    let size = const { item_size::<M::Item>() };
     match short_choice_of(size, width, height) {
         Some(ShortChoice::Copied) => cells.copy(source),
-        Some(ShortChoice::Block) if const { side_of(size_of::<M::Item>()) > 1 } => {
+        Some(ShortChoice::Block) if const { side_of(item_size::<M::Item>()) > 1 } => {
             transpose_block(cells, source, width, height)
         }
-        Some(ShortChoice::Columns) if const { size_of::<M::Item>() < LONG_BYTES } => {
+        Some(ShortChoice::Columns) if const { item_size::<M::Item>() < LONG_BYTES } => {
             let matrix = Matrix::new(source, width, height);
-            #[cfg(not(feature = "checked"))]
+            #[cfg(not(any(feature = "checked", target_pointer_width = "32")))]
             let _ = Columns.put(cells, matrix, matrix.whole());
-            #[cfg(feature = "checked")]
+            #[cfg(any(feature = "checked", target_pointer_width = "32"))]
             let _ = FEW_ITEMS.put(cells, matrix, matrix.whole());
         }
         _ => transpose_apart(cells, source, width, height),
@@ -60,6 +73,7 @@ fn transpose_apart<M: Output>(cells: M, source: impl Input<M::Item>, width: usiz
 }
 
 /// Puts a region of a matrix, or all of it.
+#[cfg(target_pointer_width = "64")]
 #[inline(never)]
 pub(super) fn transpose_region<M: Output>(cells: M, matrix: Matrix<impl Input<M::Item>>, region: Option<Region>) {
     match region {
@@ -72,7 +86,7 @@ pub(super) fn transpose_region<M: Output>(cells: M, matrix: Matrix<impl Input<M:
 /// for other squares.
 #[inline(always)]
 fn run<M: Output>(cells: M, matrix: Matrix<impl Input<M::Item>>, region: Option<Region>) {
-    match const { side_of(size_of::<M::Item>()) } {
+    match const { side_of(item_size::<M::Item>()) } {
         4 => run_by::<4, M>(cells, matrix, region),
         8 => run_by::<8, M>(cells, matrix, region),
         _ => run_by::<1, M>(cells, matrix, region),
@@ -82,15 +96,15 @@ fn run<M: Output>(cells: M, matrix: Matrix<impl Input<M::Item>>, region: Option<
 /// Long items are put by their indices.
 #[inline(always)]
 fn run_by<const SIDE: usize, M: Output>(cells: M, matrix: Matrix<impl Input<M::Item>>, region: Option<Region>) {
-    let (size, Matrix { source, width, height }) = (const { size_of::<M::Item>() }, matrix);
+    let (size, Matrix { source, width, height }) = (const { item_size::<M::Item>() }, matrix);
     let choice = choice_of(LIMITS, size, [width, height], region, cells.address());
     let region = region.unwrap_or(matrix.whole());
     if choice == Choice::Lines {
         return cells.put_by_lines(matrix, region);
     }
     let strips = strips_of::<SIDE>(width);
-    if const { size_of::<M::Item>() < LONG_BYTES } {
-        #[cfg(feature = "checked")]
+    if const { item_size::<M::Item>() < LONG_BYTES } {
+        #[cfg(any(feature = "checked", target_pointer_width = "32"))]
         if let Some(blocks) = row_blocks_of(size, width, height) {
             let _ = order_of(choice, blocks).put(cells, matrix, region);
             return;
@@ -131,12 +145,13 @@ pub(super) trait Output: Cells + Sized {
     }
 }
 
-#[cfg(feature = "checked")]
+#[cfg(all(feature = "checked", target_pointer_width = "64"))]
 pub(super) fn bytes_of_place(size: usize, _row: usize) -> usize {
     size.max(1)
 }
 
 /// Makes the exchanges of part `number`. A reversal that is not cut is one part.
+#[cfg(target_pointer_width = "64")]
 pub(super) fn run_reversal(items: impl Places, plan: RowPlan, number: usize) {
     match plan.parts {
         ReversalPlan::Whole(_, 1) => reverse(items),

@@ -4,8 +4,9 @@
 use core::mem::take;
 
 use super::by_type::{Input, Output};
-pub(super) use crate::kernels::places::SliceSource;
 use crate::kernels::places::{Block, Cells, Places, SliceCells, SlicePlaces, Source};
+// A whole list is no range of another one, so no index has to be moved.
+pub(super) use crate::kernels::places::{SlicePlaces as WholeList, SliceSource};
 
 /// These holders use no vector registers.
 pub(crate) const USES_REGISTERS: bool = false;

@@ -24,6 +24,8 @@
 
 use super::holders::USES_REGISTERS;
 use crate::kernels::transpose::{Blocks, Columns, HIGH_ROWS, LARGE_MATRIX, Region, RowBlocks, Strips, TINY_MATRIX};
+#[cfg(target_pointer_width = "32")]
+use crate::width::Index as usize;
 
 /// The bytes of a cache line.
 pub(super) const LINE: usize = 64;

@@ -10,6 +10,7 @@ use core::ptr;
 use core::slice::from_raw_parts;
 use core::sync::atomic::{Ordering, compiler_fence};
 
+pub(super) use self::SliceItems as WholeList;
 pub(super) use bytes::{Bytes, MOVES_BYTES};
 use bytes::{Unaligned, move_bytes, swap_bytes, write_item};
 pub(crate) use registers::USES_REGISTERS;

@@ -1,6 +1,8 @@
 //! Tests what each step of a holder of a slice does. With debug assertions, and with the feature `checked`, each step
 //! also checks its precondition.
 
+#![cfg(target_pointer_width = "64")]
+
 use std::array::from_fn;
 use std::boxed::Box;
 use std::cmp::Ordering;

@@ -183,6 +183,7 @@ fn lists_at_odd_addresses() {
 }
 
 #[test]
+#[cfg(target_pointer_width = "64")]
 fn items_without_bytes() {
     reverse_slice_index_bits(&mut [(); 1 << 40]);
     reverse_slice_index_bits(&mut [(); 1 << 63]);

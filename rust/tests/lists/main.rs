@@ -2,10 +2,13 @@
 
 #[path = "../package/common.rs"]
 mod common;
+#[cfg(target_pointer_width = "64")]
 mod cuts;
 mod items;
+#[cfg(target_pointer_width = "64")]
 mod parts;
 #[path = "../package/refusal.rs"]
 mod refusal;
 mod shapes;
+#[cfg(target_pointer_width = "64")]
 mod unwritten;

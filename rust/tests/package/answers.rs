@@ -1,7 +1,7 @@
 //! The answers of the original crate, version 0.8.0, built with rustc 1.95: a program over its own code printed them.
 
 /// Numbers with the answers of `log2_ceil_usize`, which are those of `log2_ceil_u64`, and of `log2_floor_usize`.
-pub const LOGARITHMS: &[(usize, usize, usize)] = &[
+pub const LOGARITHMS: &[(u64, usize, usize)] = &[
     (0, 0, 0),
     (1, 0, 0),
     (2, 1, 1),
@@ -39,6 +39,7 @@ pub const LOGARITHMS: &[(usize, usize, usize)] = &[
 ];
 
 /// Arguments and answers of `checked_pow2`.
+#[cfg(target_pointer_width = "64")]
 pub const POWERS: &[(usize, Option<usize>)] = &[
     (0, Some(1)),
     (1, Some(2)),
@@ -53,6 +54,7 @@ pub const POWERS: &[(usize, Option<usize>)] = &[
 ];
 
 /// Arguments and answers of `checked_log_size_sum`.
+#[cfg(target_pointer_width = "64")]
 pub const SUMS: &[(usize, usize, Option<(usize, usize)>)] = &[
     (0, 0, Some((0, 1))),
     (5, 0, Some((5, 32))),
@@ -70,6 +72,7 @@ pub const SUMS: &[(usize, usize, Option<(usize, usize)>)] = &[
 ];
 
 /// Arguments and answers of `reverse_bits`.
+#[cfg(target_pointer_width = "64")]
 pub const REVERSED_BELOW_POWERS: &[(usize, usize, usize)] = &[
     (0, 2, 0),
     (1, 2, 1),
@@ -106,6 +109,7 @@ pub const REVERSED_BELOW_POWERS: &[(usize, usize, usize)] = &[
 ];
 
 /// Arguments and answers of `reverse_bits_len`.
+#[cfg(target_pointer_width = "64")]
 pub const REVERSED_DIGITS: &[(usize, usize, usize)] = &[
     (390812093542348814, 1, 0),
     (14503635850233148158, 14, 8147),

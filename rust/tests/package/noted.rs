@@ -1,7 +1,10 @@
 //! A holder that notes the places of each step, and how a region is halved.
 
+#![cfg_attr(target_pointer_width = "32", allow(dead_code, reason = "no region is halved"))]
+
 use std::ops::Range;
 
+use p3_util_proved::kernels::Index;
 use p3_util_proved::kernels::places::{Cells, Places};
 
 /// A list of numbers that notes the places of each step.
@@ -26,11 +29,12 @@ impl Noted {
 impl Places for Noted {
     type Item = u64;
 
-    fn len(&self) -> usize {
-        self.items.len()
+    fn len(&self) -> Index {
+        self.items.len() as Index
     }
 
-    fn exchange(&mut self, i: usize, j: usize) {
+    fn exchange(&mut self, i: Index, j: Index) {
+        let (i, j) = (i as usize, j as usize);
         self.items.swap(i, j);
         self.exchanges.push((i, j));
     }
@@ -39,13 +43,13 @@ impl Places for Noted {
 impl Cells for Noted {
     type Item = u64;
 
-    fn len(&self) -> usize {
-        self.items.len()
+    fn len(&self) -> Index {
+        self.items.len() as Index
     }
 
-    fn put(&mut self, i: usize, v: u64) {
-        self.items[i] = v;
-        self.puts.push(i);
+    fn put(&mut self, i: Index, v: u64) {
+        self.items[i as usize] = v;
+        self.puts.push(i as usize);
     }
 }
 

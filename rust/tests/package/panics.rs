@@ -6,6 +6,9 @@ use p3_util_proved::*;
 
 use crate::refusal::{Refusal, panics, refusal, text_of_transpose};
 
+/// How many digits a `usize` has.
+const ALL: usize = usize::BITS as usize;
+
 /// Asserts that a call panics with this full text, which begins with that of a build of the original with debug
 /// assertions. The panic names the caller's file.
 fn check_text(call: fn(), original: &str, and_more: &str) {
@@ -92,16 +95,16 @@ fn digits_by_other_numbers() {
     if cfg!(debug_assertions) {
         check_text(|| _ = reverse_bits(1, 6), "assertion failed: n.is_power_of_two()", "");
         check_text(
-            || _ = reverse_bits_len(1, 65),
+            || _ = reverse_bits_len(1, ALL + 1),
             "assertion failed: bit_len <= usize::BITS as usize",
             "",
         );
     } else {
-        let by_len =
-            [(1, 65), (11, 70), (1, 1 << 32), (5, usize::MAX)].map(|(x, bit_len)| reverse_bits_len(x, bit_len));
-        assert_eq!(by_len, [1, 0x34, 1 << 63, 5 << 60]);
+        let by_len = [(1, ALL + 1), (11, ALL + 6), (1, 1 << (ALL / 2)), (5, usize::MAX)]
+            .map(|(x, bit_len)| reverse_bits_len(x, bit_len));
+        assert_eq!(by_len, [1, 0x34, 1 << (ALL - 1), 5 << (ALL - 4)]);
         let by_power = [(5, 6), (11, 12), (1, 0), (7, usize::MAX)].map(|(x, n)| reverse_bits(x, n));
-        assert_eq!(by_power, [1, 3, 1 << 63, 7 << 61]);
+        assert_eq!(by_power, [1, 3, 1 << (ALL - 1), 7 << (ALL - 3)]);
     }
 }
 
@@ -123,7 +126,7 @@ fn rows_of_each_length_and_width() {
 
 #[test]
 fn rows_that_no_memory_holds() {
-    for width in [1 << 61, 1 << 63, usize::MAX] {
+    for width in [1 << (ALL - 3), 1 << (ALL - 1), usize::MAX] {
         assert!(panics(|| reverse_slice_row_index_bits(&mut [1u64; 8], width)));
         assert!(panics(|| reverse_slice_row_index_bits(&mut [[1u8; 5]; 8], width)));
         assert!(panics(|| reverse_slice_row_index_bits(&mut [(); 8], width)));
@@ -185,7 +188,12 @@ fn matrices_of_all_lengths() {
 /// The products of these sides are 0 or 1 if they wrap. The text has the product without wrapping.
 #[test]
 fn matrices_whose_product_wraps() {
-    let shapes = [(1 << 32, 1 << 32), (1 << 63, 2), (2, 1 << 63), (usize::MAX, usize::MAX)];
+    let shapes = [
+        (1 << (ALL / 2), 1 << (ALL / 2)),
+        (1 << (ALL - 1), 2),
+        (2, 1 << (ALL - 1)),
+        (usize::MAX, usize::MAX),
+    ];
     for shape in shapes {
         for lengths in [[0, 0], [1, 1], [0, 1], [1, 0]] {
             check_lengths(lengths, shape);

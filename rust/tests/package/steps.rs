@@ -1,5 +1,6 @@
 //! The order and the number of exchanges, with holders written for the tests.
 
+use p3_util_proved::kernels::Index;
 use p3_util_proved::kernels::places::{Places, Swaps};
 use p3_util_proved::kernels::reverse::*;
 use p3_util_proved::kernels::transpose::*;
@@ -68,7 +69,7 @@ fn numbers_of_exchanges_of_rows() {
         assert_eq!(swaps, short_swaps(bits) << log_width, "2^{bits} rows of {width}");
         assert_eq!(swapped(len, |m| reverse_row_index_bits_on(m, width)), counted);
         assert_eq!(
-            swapped(len, |m| reverse_chunks_on(m, bits as usize, log_width as usize)),
+            swapped(len, |m| reverse_chunks_on(m, bits as Index, log_width as Index)),
             counted
         );
     }
@@ -147,7 +148,7 @@ fn short_path_in_order() {
         if bits <= 13 {
             assert_eq!(swapped(1 << bits, reverse_index_bits_on), noted);
             for width in [2, 3] {
-                let rows = swapped(width << bits, |m| reverse_row_index_bits_on(m, width));
+                let rows = swapped(width << bits, |m| reverse_row_index_bits_on(m, width as Index));
                 assert!(rows.exchanges == short_order(bits, width), "2^{bits} rows of {width}");
             }
         }
@@ -169,7 +170,9 @@ fn square_order(base: usize, log_stride: usize, log_side: u32) -> Vec<(usize, us
 fn squares_in_order() {
     for log_side in 0..=10 {
         let side = 1 << log_side;
-        let noted = swapped(side * side, |m| transpose_square_on(m, 0, log_side, log_side));
+        let noted = swapped(side * side, |m| {
+            transpose_square_on(m, 0, log_side as Index, log_side as Index)
+        });
         assert!(
             noted.exchanges == square_order(0, log_side, log_side as u32),
             "a side of {side}"
@@ -224,15 +227,15 @@ struct Thirds<'a> {
 impl Places for Thirds<'_> {
     type Item = u16;
 
-    fn len(&self) -> usize {
-        self.slice.len() / 3
+    fn len(&self) -> Index {
+        (self.slice.len() / 3) as Index
     }
 
-    fn exchange(&mut self, i: usize, j: usize) {
-        self.slice.swap(3 * i, 3 * j);
+    fn exchange(&mut self, i: Index, j: Index) {
+        self.slice.swap(3 * i as usize, 3 * j as usize);
     }
 
-    fn exchange_runs(&mut self, i: usize, j: usize, len: usize) {
+    fn exchange_runs(&mut self, i: Index, j: Index, len: Index) {
         self.runs += 1;
         (0..len).for_each(|k| self.exchange(i + k, j + k));
     }
@@ -269,24 +272,24 @@ struct ByTiles {
 impl Places for ByTiles {
     type Item = u64;
 
-    fn len(&self) -> usize {
+    fn len(&self) -> Index {
         Places::len(&self.noted)
     }
 
-    fn exchange(&mut self, i: usize, j: usize) {
+    fn exchange(&mut self, i: Index, j: Index) {
         self.noted.exchange(i, j);
     }
 
-    fn exchange_tiles(&mut self, x: [usize; 8], y: [usize; 8]) {
+    fn exchange_tiles(&mut self, x: [Index; 8], y: [Index; 8]) {
         for (row, col) in (0..self.rows).flat_map(|row| (0..8).map(move |col| (row, col))) {
-            self.noted.exchange(x[row] + col, y[col] + row);
+            self.noted.exchange(x[row] + col as Index, y[col] + row as Index);
         }
         self.tiles += 1;
     }
 
-    fn turn_tile(&mut self, x: [usize; 8]) {
+    fn turn_tile(&mut self, x: [Index; 8]) {
         for (row, col) in (0..self.rows).flat_map(|row| (row + 1..self.rows).map(move |col| (row, col))) {
-            self.noted.exchange(x[row] + col, x[col] + row);
+            self.noted.exchange(x[row] + col as Index, x[col] + row as Index);
         }
         self.turned += 1;
     }

@@ -6,16 +6,25 @@ use p3_util_proved::linear_map::LinearMap;
 use p3_util_proved::zip_eq::zip_eq;
 use p3_util_proved::*;
 
-use crate::answers::{LOGARITHMS, POWERS, REVERSED_BELOW_POWERS, REVERSED_DIGITS, SUMS};
+use crate::answers::LOGARITHMS;
+#[cfg(target_pointer_width = "64")]
+use crate::answers::{POWERS, REVERSED_BELOW_POWERS, REVERSED_DIGITS, SUMS};
 use crate::common::reversed;
 use crate::refusal::panics;
 
 #[test]
 fn originals_answers() {
     for (n, ceil, floor) in LOGARITHMS {
-        assert_eq!((log2_ceil_usize(*n), log2_floor_usize(*n)), (*ceil, *floor), "{n}");
-        assert_eq!(log2_ceil_u64(*n as u64), *ceil as u64, "{n}");
+        if let Ok(n) = usize::try_from(*n) {
+            assert_eq!((log2_ceil_usize(n), log2_floor_usize(n)), (*ceil, *floor), "{n}");
+        }
+        assert_eq!(log2_ceil_u64(*n), *ceil as u64, "{n}");
     }
+}
+
+#[test]
+#[cfg(target_pointer_width = "64")]
+fn originals_answers_of_64_bits() {
     for (exponent, wanted) in POWERS {
         assert_eq!(checked_pow2(*exponent), *wanted, "{exponent}");
     }
@@ -32,8 +41,8 @@ fn originals_answers() {
 
 /// The powers of two and of three, their neighbours, and the numbers up to 9.
 fn powers_and_neighbours() -> impl Iterator<Item = usize> {
-    let twos = (0..64).map(|e| 1 << e);
-    let threes = (0..=40).map(|e| 3usize.pow(e));
+    let twos = (0..usize::BITS).map(|e| 1 << e);
+    let threes = (0..=usize::MAX.ilog(3)).map(|e| 3usize.pow(e));
     let near = |n: usize| [n - 1, n, n.wrapping_add(1)];
     twos.chain(threes).flat_map(near).chain(0..=9).chain([usize::MAX])
 }
@@ -41,21 +50,25 @@ fn powers_and_neighbours() -> impl Iterator<Item = usize> {
 #[test]
 fn powers_and_their_neighbours() {
     for n in powers_and_neighbours() {
-        let floor = (0..64).rev().find(|e| 1 << e <= n).unwrap_or(0);
-        let ceil = (0..64).find(|e| n <= 1 << e).unwrap_or(64);
+        let all = usize::BITS as usize;
+        let floor = (0..all).rev().find(|e| 1 << e <= n).unwrap_or(0);
+        let ceil = (0..all).find(|e| n <= 1 << e).unwrap_or(all);
         assert_eq!((log2_floor_usize(n), log2_ceil_usize(n)), (floor, ceil), "{n}");
         assert_eq!(log2_ceil_u64(n as u64), ceil as u64, "{n}");
-        let two = (0..64).find(|e| n == 1 << e);
-        let three = (0..=40).find(|e| n == 3usize.pow(*e));
+        let two = (0..all).find(|e| n == 1 << e);
+        let three = (0..=usize::MAX.ilog(3)).find(|e| n == 3usize.pow(*e));
         assert_eq!(two.is_none(), panics(|| _ = log2_strict_usize(n)), "{n}");
         assert_eq!(three.is_none(), panics(|| _ = log3_strict_usize(n)), "{n}");
         assert!(two.is_none_or(|e| log2_strict_usize(n) == e), "{n}");
         assert!(three.is_none_or(|e| log3_strict_usize(n) == e as usize), "{n}");
-        // Both calls reverse all 64 digits if they are asked for none.
-        for bits in 0..=64 {
-            let wanted = reversed(if bits == 0 { 64 } else { bits }, n);
+        // Both calls reverse all digits if they are asked for none.
+        for bits in 0..=usize::BITS {
+            let wanted = reversed(if bits == 0 { usize::BITS } else { bits }, n);
             assert_eq!(reverse_bits_len(n, bits as usize), wanted, "{n} {bits}");
-            assert!(bits == 64 || reverse_bits(n, 1 << bits) == wanted, "{n} {bits}");
+            assert!(
+                bits == usize::BITS || reverse_bits(n, 1 << bits) == wanted,
+                "{n} {bits}"
+            );
         }
     }
 }
@@ -66,9 +79,9 @@ fn short_lengths() {
     for n in 0..10_usize {
         let is_refused = cfg!(debug_assertions) && !n.is_power_of_two();
         for x in 0..40 {
-            // Without debug assertions, these are the digits below the lowest set digit of `n`, or all 64.
-            let bits = (0..63).find(|bit| n >> bit & 1 == 1).unwrap_or(0);
-            let wanted = reversed(if bits == 0 { 64 } else { bits }, x);
+            // Without debug assertions, these are the digits below the lowest set digit of `n`, or all.
+            let bits = (0..31).find(|bit| n >> bit & 1 == 1).unwrap_or(0);
+            let wanted = reversed(if bits == 0 { usize::BITS } else { bits }, x);
             assert_eq!(panics(|| assert_eq!(reverse_bits(x, n), wanted)), is_refused, "{x} {n}");
         }
     }
@@ -132,7 +145,8 @@ const FITS: [bool; 4] = [
     fits_square(9, 1, 2, 1),
     WHOLE.fits(2, 3),
 ];
-const CHECKED: (Option<usize>, Option<(usize, usize)>) = (checked_pow2(64), checked_log_size_sum(20, 3));
+const CHECKED: (Option<usize>, Option<(usize, usize)>) =
+    (checked_pow2(usize::BITS as usize), checked_log_size_sum(20, 3));
 
 #[test]
 fn constants() {

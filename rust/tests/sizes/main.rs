@@ -3,7 +3,7 @@
 //! How an item is moved is chosen in the source by its size, so a build without optimization sees as much here as one with
 //! it, and takes a fraction of the time. Only the calls are compiled for each size. All else is about bytes.
 
-#![cfg(debug_assertions)]
+#![cfg(all(debug_assertions, target_pointer_width = "64"))]
 
 #[path = "../package/common.rs"]
 mod common;

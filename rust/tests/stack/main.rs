@@ -9,6 +9,7 @@ mod common;
 use std::thread::{Builder, scope};
 
 use common::transposed;
+#[cfg(target_pointer_width = "64")]
 use p3_util_proved::parts;
 use p3_util_proved::transpose::transpose;
 
@@ -28,7 +29,7 @@ const fn stack_for(size: usize) -> usize {
 /// An item of `SIZE` bytes with this number in its first bytes, as far as it has room.
 fn item<const SIZE: usize>(number: usize) -> [u8; SIZE] {
     let (mut item, len) = ([0; SIZE], SIZE.min(8));
-    item[..len].copy_from_slice(&number.to_le_bytes()[..len]);
+    item[..len].copy_from_slice(&(number as u64).to_le_bytes()[..len]);
     item
 }
 
@@ -58,7 +59,9 @@ fn check_transposes<const SIZE: usize>(more: &[(usize, usize)]) {
         on_a_small_stack::<SIZE>(|| transpose(&input, &mut output, width, height));
         let wanted = (0..width * height).map(|place| transposed(width, height, place));
         assert!(have(&output, wanted.clone()), "{width} by {height}");
+        #[cfg(target_pointer_width = "64")]
         output.reverse();
+        #[cfg(target_pointer_width = "64")]
         on_a_small_stack::<SIZE>(|| {
             parts::transpose(&input, &mut output, width, height, 3).for_each(|part| part.run())
         });
@@ -85,9 +88,11 @@ fn transposes_of_small_items() {
 }
 
 /// With the feature `checked` in a release build, std's `swap` makes the exchanges, and it does need room for one item.
-#[cfg(any(debug_assertions, not(feature = "checked")))]
+#[cfg(any(debug_assertions, not(any(feature = "checked", target_pointer_width = "32"))))]
 mod reversals {
-    use p3_util_proved::{parts, reverse_slice_index_bits, reverse_slice_row_index_bits};
+    #[cfg(target_pointer_width = "64")]
+    use p3_util_proved::parts;
+    use p3_util_proved::{reverse_slice_index_bits, reverse_slice_row_index_bits};
 
     use super::common::reversed;
     use super::{have, numbered, on_a_small_stack};
@@ -98,8 +103,11 @@ mod reversals {
             on_a_small_stack::<SIZE>(|| reverse_slice_index_bits(&mut items));
             let wanted = (0..1 << bits).map(|place| reversed(bits, place));
             assert!(have(&items, wanted), "2^{bits} items of {SIZE} bytes");
-            on_a_small_stack::<SIZE>(|| parts::reversal(&mut items, 3).for_each(|part| part.run()));
-            assert!(have(&items, 0..1 << bits), "2^{bits} items of {SIZE} bytes, in parts");
+            #[cfg(target_pointer_width = "64")]
+            {
+                on_a_small_stack::<SIZE>(|| parts::reversal(&mut items, 3).for_each(|part| part.run()));
+                assert!(have(&items, 0..1 << bits), "2^{bits} items of {SIZE} bytes, in parts");
+            }
         }
     }
 
@@ -113,8 +121,11 @@ mod reversals {
                 let wanted = (0..width << bits).map(|place| reversed(bits, place / width) * width + place % width);
                 let name = format!("2^{bits} rows of {width} items of {SIZE} bytes");
                 assert!(have(&items, wanted), "{name}");
-                on_a_small_stack::<SIZE>(|| parts::row_reversal(&mut items, width, 3).for_each(|part| part.run()));
-                assert!(have(&items, 0..width << bits), "{name}, in parts");
+                #[cfg(target_pointer_width = "64")]
+                {
+                    on_a_small_stack::<SIZE>(|| parts::row_reversal(&mut items, width, 3).for_each(|part| part.run()));
+                    assert!(have(&items, 0..width << bits), "{name}, in parts");
+                }
             }
         }
     }

@@ -6,6 +6,9 @@
 //! shifts on x86-64. For std's `reverse_bits`, Rattle's compilers make a loop over single digits
 //! instead, which takes about 20 ns for each call.
 
+#[cfg(target_pointer_width = "32")]
+use crate::width::Index as usize;
+
 /// Reverses the k low binary digits of `x`, where `n` is 2^k. This call does not check that `n` is a
 /// power of two, and std's `is_power_of_two` does.
 ///

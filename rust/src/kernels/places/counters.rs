@@ -6,6 +6,8 @@
 //! the `_on` calls lend the holder inside to a kernel. The kernel itself cannot reach the fields of
 //! a counter, since it is generic over its holder.
 
+#[cfg(target_pointer_width = "32")]
+use crate::width::Index as usize;
 use crate::kernels::places::{Block, Cells, Places, Source, len_fits};
 
 /// A counter around a holder of places. It counts exchanges. The count stops at `u128::MAX`.

@@ -2,6 +2,8 @@
 //! References to holders. Such a reference is a holder too: each step and each read is made by the
 //! holder behind the reference.
 
+#[cfg(target_pointer_width = "32")]
+use crate::width::Index as usize;
 use crate::kernels::places::{Block, Cells, Places, Source};
 
 /// The holder behind the reference makes the exchanges.

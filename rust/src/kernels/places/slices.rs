@@ -2,6 +2,8 @@
 //! The holders of slices. [`SlicePlaces`] exchanges items, [`SliceCells`] puts items into the
 //! slice, and [`SliceSource`] reads items.
 
+#[cfg(target_pointer_width = "32")]
+use crate::width::Index as usize;
 use crate::kernels::places::{Block, Cells, Places, Source, len_fits};
 
 /// The places of a mutable slice. All changes are made in the slice itself.
@@ -30,12 +32,12 @@ impl<'a, F> Places for SlicePlaces<'a, F> {
     type Item = F;
 
     fn len(&self) -> usize {
-        self.items.len()
+        self.items.len() as usize
     }
 
     #[inline(always)]
     fn exchange(&mut self, i: usize, j: usize) {
-        self.items.swap(i, j);
+        self.items.swap(i as core::primitive::usize, j as core::primitive::usize);
     }
 
     #[inline(always)]
@@ -57,8 +59,8 @@ impl<'a, F> Places for SlicePlaces<'a, F> {
 #[inline(always)]
 fn exchange_runs_of_items<F>(items: &mut [F], i: usize, j: usize, len: usize) {
     let (low, high) = (i.min(j), i.max(j));
-    let (front, back) = items.split_at_mut(high);
-    front[low..low + len].swap_with_slice(&mut back[..len]);
+    let (front, back) = items.split_at_mut(high as core::primitive::usize);
+    front[low as core::primitive::usize..(low + len) as core::primitive::usize].swap_with_slice(&mut back[..len as core::primitive::usize]);
 }
 
 /// The cells of a mutable slice. All items are put into the slice itself.
@@ -87,12 +89,12 @@ impl<'a, T: Copy> Cells for SliceCells<'a, T> {
     type Item = T;
 
     fn len(&self) -> usize {
-        self.values.len()
+        self.values.len() as usize
     }
 
     #[inline(always)]
     fn put(&mut self, i: usize, v: T) {
-        self.values[i] = v;
+        self.values[i as core::primitive::usize] = v;
     }
 
     #[inline(always)]
@@ -133,7 +135,7 @@ fn put_items<R: Source>(values: &mut [R::Item], source: &R, block: Block) {
     len_fits(source.len());
     for c in 0..cols {
         for r in 0..rows {
-            values[to + c * height + r] = source.at(from + r * width + c);
+            values[(to + c * height + r) as core::primitive::usize] = source.at(from + r * width + c);
         }
     }
 }
@@ -231,7 +233,7 @@ fn put_sixteen<T: Copy>(values: &mut [T], items: &[T], block: Block) {
 #[inline(always)]
 fn row_of<T>(items: &[T], block: Block, r: usize) -> &[T] {
     let start = block.from + r * block.width;
-    &items[start..start + block.cols]
+    &items[start as core::primitive::usize..(start + block.cols) as core::primitive::usize]
 }
 
 /// Puts a block that has these rows, column after column. One test is made for each column, and none
@@ -248,10 +250,10 @@ fn row_of<T>(items: &[T], block: Block, r: usize) -> &[T] {
 /// ```
 #[inline(always)]
 fn put_rows<T: Copy>(values: &mut [T], items: &[T], rows: &[&[T]], block: Block) {
-    len_fits(items.len());
+    len_fits(items.len() as usize);
     for col in 0..block.cols {
         let at = block.to + col * block.height;
-        put_column(&mut values[at..at + rows.len()], rows, col);
+        put_column(&mut values[at as core::primitive::usize..(at + rows.len() as usize) as core::primitive::usize], rows, col);
     }
 }
 
@@ -268,9 +270,9 @@ fn put_rows<T: Copy>(values: &mut [T], items: &[T], rows: &[&[T]], block: Block)
 /// ```
 #[inline(always)]
 fn put_column<T: Copy>(column: &mut [T], rows: &[&[T]], col: usize) {
-    for r in 0..rows.len() {
-        let row = rows[r];
-        column[r] = row[col];
+    for r in 0..rows.len() as usize {
+        let row = rows[r as core::primitive::usize];
+        column[r as core::primitive::usize] = row[col as core::primitive::usize];
     }
 }
 
@@ -300,12 +302,12 @@ impl<'a, T: Copy> Source for SliceSource<'a, T> {
     type Item = T;
 
     fn len(&self) -> usize {
-        self.slice.len()
+        self.slice.len() as usize
     }
 
     #[inline(always)]
     fn at(&self, i: usize) -> T {
-        self.slice[i]
+        self.slice[i as core::primitive::usize]
     }
 
     #[inline(always)]

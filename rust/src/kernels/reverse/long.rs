@@ -11,6 +11,8 @@
 //! change places. The third pass does the same as the first one, and so reverses the bits that were
 //! those of the column.
 
+#[cfg(target_pointer_width = "32")]
+use crate::width::Index as usize;
 use crate::kernels::bits::{log2_strict_usize, pow2};
 use crate::kernels::places::Places;
 use crate::kernels::reverse::rows::reverse_chunks;

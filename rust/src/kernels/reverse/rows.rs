@@ -19,6 +19,8 @@
 //! The rows with the same middle digit form a [`Grid`]: the row of `x` and `y` is the place of row
 //! `x` and column `y`, and is exchanged with the place of row `y` and column `x`.
 
+#[cfg(target_pointer_width = "32")]
+use crate::width::Index as usize;
 use crate::kernels::bits::{log2_strict_usize, pow2};
 use crate::kernels::grid::{Grid, exchange_square};
 use crate::kernels::places::Places;

@@ -4,6 +4,8 @@
 //! A call whose name ends in `_on` adds to a counter that its caller made. One whose name ends in
 //! `_counted` counts from 0, and returns the number.
 
+#[cfg(target_pointer_width = "32")]
+use crate::width::Index as usize;
 use crate::kernels::bits::pow2;
 use crate::kernels::places::{Cells, Places, SliceSource, Source, Swaps, Writes};
 use crate::kernels::transpose::regions::{Matrix, Region};

@@ -1,6 +1,8 @@
 // rust/erase writes this file from crates/p3_util_kernels/src/transpose/order.rt. Make changes there.
 //! The orders in which a matrix may be put that is not tiny.
 
+#[cfg(target_pointer_width = "32")]
+use crate::width::Index as usize;
 use crate::kernels::places::{Cells, Source};
 use crate::kernels::transpose::ENOUGH_LEVELS;
 use crate::kernels::transpose::regions::{Matrix, Region};

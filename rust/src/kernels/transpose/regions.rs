@@ -1,6 +1,9 @@
 // rust/erase writes this file from crates/p3_util_kernels/src/transpose/regions.rt. Make changes there.
 //! Matrices, their regions, and the parts that a region is cut into.
 
+#[cfg(target_pointer_width = "32")]
+use crate::width::Index as usize;
+
 /// A matrix of `height` rows of `width` items. The items are in `source`, row after row.
 #[derive(Clone, Copy)]
 pub(crate) struct Matrix<R> {

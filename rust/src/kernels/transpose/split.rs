@@ -2,6 +2,8 @@
 //! Puts a large region: halves its longer side, and does the same with each half, until the parts
 //! are leaves. A *leaf* is a part that is small or narrow. It is put strip by strip.
 
+#[cfg(target_pointer_width = "32")]
+use crate::width::Index as usize;
 use crate::kernels::places::{Cells, Source};
 use crate::kernels::transpose::regions::{Matrix, Region};
 use crate::kernels::transpose::ways::PutRegion;

@@ -5,6 +5,8 @@
 //! list. So the square is a [`Grid`] whose rows are in order, and each item above the diagonal is
 //! exchanged once with its mirror image.
 
+#[cfg(target_pointer_width = "32")]
+use crate::width::Index as usize;
 use crate::kernels::bits::pow2;
 use crate::kernels::grid::{Grid, exchange_square};
 use crate::kernels::places::Places;

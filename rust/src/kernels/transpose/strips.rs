@@ -9,6 +9,8 @@
 //! squares. [`Strips::by_shape`] chooses by the shape of the matrix. That choice only changes the
 //! order of the puts.
 
+#[cfg(target_pointer_width = "32")]
+use crate::width::Index as usize;
 use crate::kernels::places::{Cells, Source};
 use crate::kernels::transpose::regions::{Matrix, Region};
 use crate::kernels::transpose::ways::{Blocks, Columns, InCols, InRows, Outlined, PutRegion};

@@ -15,6 +15,8 @@
 //! Each way takes the holder by value and returns it. This keeps the holder in registers in the
 //! loops.
 
+#[cfg(target_pointer_width = "32")]
+use crate::width::Index as usize;
 use crate::kernels::places::{Block, Cells, Source};
 use crate::kernels::transpose::regions::{Matrix, Region};
 
