@@ -50,9 +50,10 @@ def line(indent, code):
     return textwrap.fill(code, 118, initial_indent=" " * indent, subsequent_indent=" " * (indent + 4), break_long_words=False)
 
 
-def function(indent, owner, declared):
-    """The lines of a function: its head, with the owner before its name, and its clauses."""
-    mark = "hidden " if declared.seen_by == "pub(crate)" else ""
+def function(indent, owner, declared, hidden=""):
+    """The lines of a function: its head, with the owner before its name, and its clauses. If only its crate and the sister
+    crates see it, the mark `hidden` comes first."""
+    mark = hidden if declared.seen_by == "pub(crate)" else ""
     return [line(indent, f"{mark}fn {owner}{declared.head[3:]}"), *(line(indent + 2, f"{title}: {said}") for title, said in declared.clauses)]
 
 
@@ -66,20 +67,20 @@ def members(outer):
             yield line(4, f"{inner.head} {inner.body}")
 
 
-def contracts(text, seen_by=("pub",)):
+def contracts(text, seen_by=("pub",), hidden=""):
     """The contracts of a source that these see. Also all its structs and enums, since a definition may use any of them."""
     for outer in declarations(text, 0):
         if outer.kind == "impl" and " for " not in outer.head:
             for inner in declarations(outer.body, 4):
                 if inner.kind == "fn" and inner.seen_by in seen_by:
-                    yield from function(2, f"{outer.name()}::", inner)
+                    yield from function(2, f"{outer.name()}::", inner, hidden)
         elif outer.kind == "impl":
             if said := list(members(outer)):
                 yield from [line(2, outer.head), *said]
         elif outer.seen_by not in seen_by and outer.kind not in ("struct", "enum"):
             continue
         elif outer.kind == "fn":
-            yield from function(2, "", outer)
+            yield from function(2, "", outer, hidden)
         elif outer.kind == "trait":
             yield from [line(2, outer.head), *members(outer)]
         else:
@@ -94,7 +95,7 @@ def listed(path, named=None):
     if path.endswith(".rt"):
         exported = re.findall(r"^pub use [^;]*;", source, re.M) if path.endswith("/src/lib.rt") else []
         lines = [line(2, re.sub(r"(?<={)\s+|,?\s+(?=})", "", said)) for said in exported]
-        lines += contracts(source, ("pub", "pub(crate)") if re.match(INSIDE, path) else ("pub",))
+        lines += contracts(source, ("pub", "pub(crate)") if re.match(INSIDE, path) else ("pub",), "hidden ")
     elif "/proofs/" in path:
         lines = [f"  {said}" for said in statements(source, named)]
     else:

@@ -11,6 +11,10 @@ pub mod proved;
 /// The compiler can tell that `1 << log2_strict_usize(n)` is `n`, so `&v[..1 << log2_strict_usize(v.len())]` needs no
 /// bounds check.
 ///
+/// ```
+/// assert_eq!(p3_util_proved::log2_strict_usize(8), 3);
+/// ```
+///
 /// # Panics
 ///
 /// If `n` is not a power of two.
@@ -28,6 +32,10 @@ pub const fn log2_strict_usize(n: usize) -> usize {
 }
 
 /// The logarithm to base 3 of a power of three.
+///
+/// ```
+/// assert_eq!(p3_util_proved::log3_strict_usize(9), 2);
+/// ```
 ///
 /// # Panics
 ///
@@ -49,6 +57,10 @@ pub const fn log3_strict_usize(n: usize) -> usize {
 
 /// Reverses the k low binary digits of `x` and drops the others, for an `n` of 2^k. An `n` of 1 reverses all digits.
 ///
+/// ```
+/// assert_eq!(p3_util_proved::reverse_bits(0b0011, 16), 0b1100);
+/// ```
+///
 /// # Panics
 ///
 /// With debug assertions, if `n` is not a power of two. Without them, the lowest set digit of `n` is used.
@@ -63,6 +75,10 @@ pub const fn reverse_bits(x: usize, n: usize) -> usize {
 }
 
 /// Reverses the `bit_len` low binary digits of `x` and drops the others. A `bit_len` of 0 reverses all digits.
+///
+/// ```
+/// assert_eq!(p3_util_proved::reverse_bits_len(0b0011, 4), 0b1100);
+/// ```
 ///
 /// # Panics
 ///

@@ -184,6 +184,10 @@ pub fn iter_array_chunks_padded<T: Copy, const N: usize>(
 
 /// The short name of `T`: `alloc::vec::Vec<core::option::Option<u32>>` becomes `Vec<Option<u32>>`.
 ///
+/// ```
+/// assert_eq!(p3_util_proved::pretty_name::<Option<Vec<u8>>>(), "Option<Vec<u8>>");
+/// ```
+///
 /// # Panics
 ///
 /// If memory runs out. The proved [`kernels::bits::pretty_name`] returns an error then.

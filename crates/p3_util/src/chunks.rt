@@ -15,6 +15,12 @@ use std::iter::FusedIterator;
 /// The iterator is dropped after the last call of `func`. If `BUFLEN` is 0, there is no chunk, and
 /// neither `func` nor `next` is called. `BUFLEN` must be below 2^63, and the length of every array
 /// of bytes is.
+///
+/// ```
+/// let mut lengths = vec![];
+/// p3_util_proved::apply_to_chunks::<4, _, _>(*b"chunks", |chunk| lengths.push(chunk.len()));
+/// assert_eq!(lengths, [4, 2]);
+/// ```
 pub fn apply_to_chunks<const BUFLEN: usize, I, H>(input: I, mut func: H)
 where
     I: IntoIterator<Item = u8>,

@@ -66,6 +66,11 @@ static EXPONENTS_OF_THREE: [u8; 64] = [
 
 /// The logarithm of `n` to base 2, rounded up: the least `e` with `n <= 2^e`. It is 0 for 0 and 1.
 ///
+/// ```
+/// assert_eq!(p3_util_proved::log2_ceil_usize(8), 3);
+/// assert_eq!(p3_util_proved::log2_ceil_usize(9), 4);
+/// ```
+///
 /// # Contract
 ///
 /// [`contracts`](crate::kernels::contracts) explains how to read this contract.
@@ -87,6 +92,11 @@ pub const fn log2_ceil_usize(n: usize) -> usize {
 
 /// The logarithm of `n` to base 2, rounded down: the greatest `e` with `2^e <= n`. It is 0 for 0.
 ///
+/// ```
+/// assert_eq!(p3_util_proved::log2_floor_usize(7), 2);
+/// assert_eq!(p3_util_proved::log2_floor_usize(8), 3);
+/// ```
+///
 /// # Contract
 ///
 /// [`contracts`](crate::kernels::contracts) explains how to read this contract.
@@ -105,6 +115,11 @@ pub const fn log2_floor_usize(n: usize) -> usize {
 }
 
 /// The logarithm of `n` to base 2, rounded up: the least `e` with `n <= 2^e`. It is 0 for 0 and 1.
+///
+/// ```
+/// assert_eq!(p3_util_proved::log2_ceil_u64(8), 3);
+/// assert_eq!(p3_util_proved::log2_ceil_u64(9), 4);
+/// ```
 ///
 /// # Contract
 ///
@@ -138,6 +153,11 @@ pub(crate) const fn pow2(exponent: usize) -> usize {
 
 /// `2^log_degree`, or `None` if it does not fit in a `usize`.
 ///
+/// ```
+/// assert_eq!(p3_util_proved::checked_pow2(5), Some(32));
+/// assert_eq!(p3_util_proved::checked_pow2(64), None);
+/// ```
+///
 /// # Contract
 ///
 /// [`contracts`](crate::kernels::contracts) explains how to read this contract.
@@ -156,6 +176,11 @@ pub const fn checked_pow2(log_degree: usize) -> Option<usize> {
 }
 
 /// `a + b` and `2^(a + b)`, or `None` if the power does not fit in a `usize`.
+///
+/// ```
+/// assert_eq!(p3_util_proved::checked_log_size_sum(2, 3), Some((5, 32)));
+/// assert_eq!(p3_util_proved::checked_log_size_sum(32, 32), None);
+/// ```
 ///
 /// # Contract
 ///
@@ -258,6 +283,10 @@ const fn exponent_of_three(top: usize) -> usize {
 
 /// The array `[0, 1, .., N - 1]`, in which each item is its own index.
 ///
+/// ```
+/// assert_eq!(p3_util_proved::indices_arr::<4>(), [0, 1, 2, 3]);
+/// ```
+///
 /// # Contract
 ///
 /// [`contracts`](crate::kernels::contracts) explains how to read this contract.
@@ -282,9 +311,18 @@ pub const fn indices_arr<const N: core::primitive::usize>() -> [core::primitive:
 ///
 /// The original has an empty line of assembly here, so that the compiler keeps the branch. This
 /// body is empty, so the compiler may turn the branch into a conditional move.
+///
+/// ```
+/// let bits = |n: usize| if n == 0 { p3_util_proved::branch_hint(); 1 } else { n.ilog2() + 1 };
+/// assert_eq!([bits(0), bits(8)], [1, 4]);
+/// ```
 #[inline]
 pub const fn branch_hint() {}
 
 /// Does nothing, but a call compiles only if `T` is `Clone`.
+///
+/// ```compile_fail,E0277
+/// p3_util_proved::assert_clone::<&mut u8>();
+/// ```
 #[inline]
 pub const fn assert_clone<T: Clone>() {}

@@ -11,6 +11,12 @@ use core::iter::FusedIterator;
 /// neither `func` nor `next` is called. `BUFLEN` must be below 2^63, and the length of every array
 /// of bytes is.
 ///
+/// ```
+/// let mut lengths = vec![];
+/// p3_util_proved::apply_to_chunks::<4, _, _>(*b"chunks", |chunk| lengths.push(chunk.len()));
+/// assert_eq!(lengths, [4, 2]);
+/// ```
+///
 /// # Contract
 ///
 /// [`contracts`](crate::kernels::contracts) explains how to read this contract.

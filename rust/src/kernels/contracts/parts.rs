@@ -10,24 +10,24 @@
 //!
 //! ```text
 //! struct Cut { len: usize, part_len: usize, pub ghost some_part_len: { 0 < part_len } }
-//! hidden fn Cut::new(len: usize, parts: usize, unit: usize) -> Cut
+//! fn Cut::new(len: usize, parts: usize, unit: usize) -> Cut
 //!   requires: 0 < unit
 //!   ensures len: result.len ≡ len
 //!   ensures few: parts_in result.len result.part_len ≤ max parts 1
 //!   ensures units: (k : ℕ) → k < parts_in result.len result.part_len → start_of result.len result.part_len k % unit ≡
 //!       0
 //!   ensures least: IsLeastPartLen parts unit result.len result.part_len
-//! hidden fn Cut::count(self) -> usize
+//! fn Cut::count(self) -> usize
 //!   ensures count: result ≡ parts_in self.len self.part_len
 //!   ensures parts: FollowEachOther result self.len (start_of self.len self.part_len)
-//! hidden fn Cut::part(self, k: usize) -> (usize, usize)
+//! fn Cut::part(self, k: usize) -> (usize, usize)
 //!   requires: k < parts_in self.len self.part_len
 //!   ensures from: result.0 ≡ start_of self.len self.part_len k
 //!   ensures to: result.1 ≡ start_of self.len self.part_len (k + 1)
-//! hidden fn Cut::pairs(self) -> usize
+//! fn Cut::pairs(self) -> usize
 //!   requires: parts_in self.len self.part_len < 2 ^ 32
 //!   ensures: result ≡ pairs_of (parts_in self.len self.part_len)
-//! hidden fn Cut::pair(self, number: usize) -> (usize, usize)
+//! fn Cut::pair(self, number: usize) -> (usize, usize)
 //!   requires few: parts_in self.len self.part_len < 2 ^ 32
 //!   requires below: number < pairs_of (parts_in self.len self.part_len)
 //!   ensures in_order: result.0 ≤ result.1
@@ -35,7 +35,7 @@
 //!   ensures number: number_of_pair (parts_in self.len self.part_len) result.0 result.1 ≡ number
 //! struct RowPairs { rows: RowDigits, cut: Cut, pub ghost digits: { rows.digits < 64 }, pub ghost side: { cut.len ≡ 2 ^
 //!     (rows.digits / 2) }, pub ghost few: { parts_in cut.len cut.part_len < 2 ^ 32 } }
-//! hidden fn RowPairs::new(len: usize, row_width: usize, parts: usize) -> RowPairs
+//! fn RowPairs::new(len: usize, row_width: usize, parts: usize) -> RowPairs
 //!   requires: FitsRows len row_width
 //!   ensures width: result.rows.width ≡ row_width
 //!   ensures rows: 0 < len → (0 < row_width) × (len ≡ row_width * 2 ^ result.rows.digits)
@@ -43,9 +43,9 @@
 //!   ensures least: IsLeastPartLen parts (if row_width == 1 then TILE else 1) result.cut.len result.cut.part_len
 //!   ensures units: (k : ℕ) → k < parts_in result.cut.len result.cut.part_len → start_of result.cut.len
 //!       result.cut.part_len k % (if row_width == 1 then TILE else 1) ≡ 0
-//! hidden fn RowPairs::count(self) -> usize
+//! fn RowPairs::count(self) -> usize
 //!   ensures: result ≡ patches_of self.rows.digits self.cut.part_len
-//! hidden fn RowPairs::exchange_patch<M: Places>(self, m: M, number: usize) -> M
+//! fn RowPairs::exchange_patch<M: Places>(self, m: M, number: usize) -> M
 //!   requires below: number < patches_of self.rows.digits self.cut.part_len
 //!   requires ready: HoldsRows self.rows.width self.rows.digits (M.items m)
 //!   ensures: IsPatchExchanged self.rows.digits self.rows.width self.cut.part_len number (M.items m) (M.items result)
@@ -63,14 +63,14 @@
 //! impl<S: Places> Places for ExchangeSteps<S>
 //!   ghost items = λ h. S.items h.places
 //!   ghost same_holder = λ n a b. SwapsLead n (S.items a.places) (S.items b.places)
-//! hidden fn puts_of_part<C: Cells, R: Source<Item = C::Item> + Copy, O: PutRegion>(out: C, source: R, plan:
-//!     TransposePlan, number: usize, order: O) -> C
+//! fn puts_of_part<C: Cells, R: Source<Item = C::Item> + Copy, O: PutRegion>(out: C, source: R, plan: TransposePlan,
+//!     number: usize, order: O) -> C
 //!   requires below: number < parts_in plan.cut.len plan.cut.part_len
 //!   requires input_fits: length (R.items source) ≡ plan.width * plan.height
 //!   requires output_fits: length (C.items out) ≡ plan.width * plan.height
 //!   ensures: (steps : List (ℕ × C.Item)) × (C.items result ≡ after_puts (C.items out) steps) × IsPutAlone plan number
 //!       (R.items source) (C.items out) steps
-//! hidden fn transpose_in_parts<T>(plan: TransposePlan)
+//! fn transpose_in_parts<T>(plan: TransposePlan)
 //!   ensures stay: (number : ℕ) (blank : List ℕ) (steps : List (ℕ × ℕ)) → number < parts_in plan.cut.len
 //!       plan.cut.part_len → length blank ≡ plan.width * plan.height → NoItemInCommon (numbers_below (plan.width *
 //!       plan.height)) blank → IsPutAlone plan number (numbers_below (plan.width * plan.height)) blank steps →
@@ -84,13 +84,13 @@
 //!       IsPutAlone plan k (numbers_below (plan.width * plan.height)) blank) lists → IsInterleaved lists all →
 //!       IsTranspose plan.width plan.height input (after_puts old (puts_of item all)) × (length all ≡ plan.width *
 //!       plan.height)
-//! hidden fn exchanges_of_part<M: Places>(m: M, plan: ReversalPlan, number: usize) -> M
+//! fn exchanges_of_part<M: Places>(m: M, plan: ReversalPlan, number: usize) -> M
 //!   requires below: number < parts_of plan
 //!   requires plan: IsReversalPlan (length (M.items m)) plan
 //!   requires len_fits: length (M.items m) < 2 ^ 64
 //!   ensures: (steps : List (ℕ × ℕ)) × (M.items result ≡ after_swaps (M.items m) steps) × IsMadeAlone plan number
 //!       (M.items m) steps
-//! hidden fn reversal_in_parts<T>(plan: ReversalPlan)
+//! fn reversal_in_parts<T>(plan: ReversalPlan)
 //!   ensures stay: (len number : ℕ) (steps : List (ℕ × ℕ)) → number < parts_of plan → IsReversalPlan len plan →
 //!       IsMadeAlone plan number (numbers_below len) steps → AreOnceAmong (IsPlaceOfPart plan number) (places_swapped
 //!       steps)
@@ -99,18 +99,18 @@
 //!       plan → AreOfParts (parts_of plan) (λ k. IsMadeAlone plan k (numbers_below (length old))) lists → IsInterleaved
 //!       lists all → IsRowReversal (width_of plan) old (after_swaps old all) × (length all ≡ row_swaps (length old)
 //!       (width_of plan))
-//! hidden fn put_all_parts<C: Cells, R: Source<Item = C::Item> + Copy, O: PutRegion>(out: C, source: R, plan:
-//!     TransposePlan, order: O) -> C
+//! fn put_all_parts<C: Cells, R: Source<Item = C::Item> + Copy, O: PutRegion>(out: C, source: R, plan: TransposePlan,
+//!     order: O) -> C
 //!   requires input_fits: length (R.items source) ≡ plan.width * plan.height
 //!   requires output_fits: length (C.items out) ≡ plan.width * plan.height
 //!   ensures transposed: IsTranspose plan.width plan.height (R.items source) (C.items result)
 //!   ensures holder: C.same_holder (plan.width * plan.height) out result
-//! hidden fn exchange_all_parts<M: Places>(m: M, plan: ReversalPlan) -> M
+//! fn exchange_all_parts<M: Places>(m: M, plan: ReversalPlan) -> M
 //!   requires plan: IsReversalPlan (length (M.items m)) plan
 //!   requires len_fits: length (M.items m) < 2 ^ 64
 //!   ensures reversed: IsRowReversal (width_of plan) (M.items m) (M.items result)
 //!   ensures holder: M.same_holder (row_swaps (length (M.items m)) (width_of plan)) m result
-//! hidden fn cells_follow(plan: TransposePlan, number: usize)
+//! fn cells_follow(plan: TransposePlan, number: usize)
 //!   requires columns: plan.by_rows ≡ false
 //!   requires below: number < parts_in plan.cut.len plan.cut.part_len
 //!   ensures: (p : ℕ) → IsPlaceOfRegion (region_of plan number) plan.height p ↔ ((start_of plan.cut.len
@@ -124,12 +124,12 @@
 //! enum ReversalPlan { /// The number of items, and that of the items of each row. The call is the only part. If there
 //!     /// are no items, there is no part. Whole(usize, usize), /// Each patch of these pairs is a part.
 //!     Patches(RowPairs) }
-//! hidden fn ReversalPlan::new(len: usize, row_width: usize, parts: Option<usize>) -> ReversalPlan
+//! fn ReversalPlan::new(len: usize, row_width: usize, parts: Option<usize>) -> ReversalPlan
 //!   requires: FitsRows len row_width
 //!   ensures width: width_of result ≡ row_width
 //!   ensures plan: IsReversalPlan len result
 //!   ensures cut: IsCutAsAsked len parts TILE result
-//! hidden fn ReversalPlan::count(self) -> usize
+//! fn ReversalPlan::count(self) -> usize
 //!   ensures: result ≡ parts_of self
 //! ```
 //!
@@ -139,7 +139,7 @@
 //! struct TransposePlan { pub width: usize, pub height: usize, by_rows: bool, cut: Cut, pub ghost side: { 0 < cut.len →
 //!     cut.len ≡ if by_rows then height else width }, pub ghost all: { cut.len ≡ 0 → width * height ≡ 0 }, pub ghost
 //!     len_fits: { width * height < 2 ^ 64 } }
-//! hidden fn TransposePlan::new(width: usize, height: usize, parts: usize, may_cut_rows: bool) -> TransposePlan
+//! fn TransposePlan::new(width: usize, height: usize, parts: usize, may_cut_rows: bool) -> TransposePlan
 //!   requires: width * height < 2 ^ 64
 //!   ensures width: result.width ≡ width
 //!   ensures height: result.height ≡ height
@@ -149,13 +149,13 @@
 //!   ensures least: IsLeastPartLen parts UNIT result.cut.len result.cut.part_len
 //!   ensures units: (k : ℕ) → k < parts_in result.cut.len result.cut.part_len → start_of result.cut.len
 //!       result.cut.part_len k % UNIT ≡ 0
-//! hidden fn TransposePlan::count(self) -> usize
+//! fn TransposePlan::count(self) -> usize
 //!   ensures: result ≡ parts_in self.cut.len self.cut.part_len
-//! hidden fn TransposePlan::region(self, number: usize) -> Region
+//! fn TransposePlan::region(self, number: usize) -> Region
 //!   requires: number < parts_in self.cut.len self.cut.part_len
 //!   ensures region: result ≡ part_of_matrix self.width self.height self.by_rows self.cut.len self.cut.part_len number
 //!   ensures inside: LiesInMatrix result self.width self.height
-//! hidden fn TransposePlan::items(self, number: usize) -> usize
+//! fn TransposePlan::items(self, number: usize) -> usize
 //!   requires: number < parts_in self.cut.len self.cut.part_len
 //!   ensures: result ≡ items_of (part_of_matrix self.width self.height self.by_rows self.cut.len self.cut.part_len
 //!       number)
