@@ -701,6 +701,8 @@ mod lines;
 
 mod choice;
 
+mod uses;
+
 #[cfg(any(debug_assertions, feature = "checked"))]
 mod refused {
     use super::super::by_type::Output;
