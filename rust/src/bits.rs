@@ -67,7 +67,7 @@ pub const fn log3_strict_usize(n: usize) -> usize {
 ///
 /// # Contract
 #[doc = include_str!("kernels/contracts/reverse_bits.txt")]
-#[inline]
+#[inline(always)]
 #[track_caller]
 pub const fn reverse_bits(x: usize, n: usize) -> usize {
     debug_assert!(n.is_power_of_two());
@@ -86,7 +86,7 @@ pub const fn reverse_bits(x: usize, n: usize) -> usize {
 ///
 /// # Contract
 #[doc = include_str!("kernels/contracts/reverse_bits_len.txt")]
-#[inline]
+#[inline(always)]
 #[track_caller]
 pub const fn reverse_bits_len(x: usize, bit_len: usize) -> usize {
     debug_assert!(bit_len <= usize::BITS as usize);

@@ -39,7 +39,10 @@ pub struct PushError<T> {
 /// The value of a call that allocates. Panics if there was no memory.
 #[track_caller]
 pub(crate) fn granted<T, E>(answer: Result<T, E>) -> T {
-    answer.ok().expect("out of memory")
+    match answer {
+        Ok(value) => value,
+        Err(_) => panic!("out of memory"),
+    }
 }
 
 /// A string whose calls return an error if there is no memory. `into` turns it into the `String` of `alloc`.
@@ -114,7 +117,7 @@ impl<T> Vec<T> {
     }
 
     pub fn push(&mut self, value: T) -> Result<(), PushError<T>> {
-        if self.reserve(1).is_err() {
+        if self.0.len() == self.0.capacity() && self.reserve(1).is_err() {
             return Err(PushError { value });
         }
         self.push_reserved(value);

@@ -57,7 +57,7 @@ where
     B::Item: Drop,
 {
     /// Calls `next` of the first iterator, and then `next` of the second one.
-    #[inline]
+    #[inline(always)]
     pub(crate) fn next_of_each(&mut self) -> (Option<A::Item>, Option<B::Item>)
         requires first_can { A.can_next (zip_eq_first self.old) }
         requires second_can { B.can_next (zip_eq_second self.old) }

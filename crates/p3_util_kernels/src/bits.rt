@@ -70,7 +70,7 @@ static EXPONENTS_OF_THREE: [u8; 64] = [
 /// assert_eq!(p3_util_proved::log2_ceil_usize(8), 3);
 /// assert_eq!(p3_util_proved::log2_ceil_usize(9), 4);
 /// ```
-#[inline]
+#[inline(always)]
 #[must_use]
 pub const fn log2_ceil_usize(n: usize) -> usize
     ensures enough { n ≤ 2 ^ result }
@@ -91,7 +91,7 @@ pub const fn log2_ceil_usize(n: usize) -> usize
 /// assert_eq!(p3_util_proved::log2_floor_usize(8), 3);
 /// ```
 #[tactic(auto, using(crate::proofs::BitsLemmas::Powers::exponents))]
-#[inline]
+#[inline(always)]
 #[must_use]
 pub const fn log2_floor_usize(n: usize) -> usize
     ensures zero { n ≡ 0 → result ≡ 0 }

@@ -83,7 +83,7 @@ static EXPONENTS_OF_THREE: [u8; 64] = [
 /// ensures counted { result ≡ clog n }
 /// ensures bound { result ≤ 64 }
 /// ```
-#[inline]
+#[inline(always)]
 #[must_use]
 pub const fn log2_ceil_usize(n: usize) -> usize {
     // The result is the number of binary digits of `n - 1`.
@@ -108,7 +108,7 @@ pub const fn log2_ceil_usize(n: usize) -> usize {
 /// ensures below { 0 < n → n < 2 ^ (result + 1) }
 /// ensures bound { result < 64 }
 /// ```
-#[inline]
+#[inline(always)]
 #[must_use]
 pub const fn log2_floor_usize(n: usize) -> usize {
     if n == 0 { 0 } else { n.ilog2() as usize }

@@ -65,7 +65,7 @@ impl<A: ExactSizeIterator, B: ExactSizeIterator> ZipEq<A, B> {
     /// ensures second { B.next_gives (zip_eq_second self.old) result.1 (zip_eq_second self.new) }
     /// ensures second_goes { MakesProgress B.can_next B.remaining (zip_eq_second self.old) result.1 (zip_eq_second self.new) }
     /// ```
-    #[inline]
+    #[inline(always)]
     pub(crate) fn next_of_each(&mut self) -> (Option<A::Item>, Option<B::Item>) {
         let x = self.first.next();
         let y = self.second.next();

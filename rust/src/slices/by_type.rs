@@ -39,8 +39,8 @@ pub(super) fn reverse_rows(items: impl Places, row_width: usize) {
     let _ = kernel::reverse_rows(items, rows);
 }
 
-/// Puts a matrix. A user's crate has this, and puts columns itself, since a call would take as long. The calls have single
-/// arguments and no matrix, so that all are in registers and need no room on the stack.
+/// Puts a matrix. A user's crate has this, and in release puts columns itself, since a call would take as long. The calls have
+/// single arguments and no matrix, so that all are in registers and need no room on the stack.
 #[inline(always)]
 pub(super) fn transpose<M: Output>(cells: M, source: impl Input<M::Item>, width: usize, height: usize) {
     let size = const { item_size::<M::Item>() };
@@ -50,14 +50,21 @@ pub(super) fn transpose<M: Output>(cells: M, source: impl Input<M::Item>, width:
             transpose_block(cells, source, width, height)
         }
         Some(ShortChoice::Columns) if const { item_size::<M::Item>() < LONG_BYTES } => {
-            let matrix = Matrix::new(source, width, height);
-            #[cfg(not(any(feature = "checked", target_pointer_width = "32")))]
-            let _ = Columns.put(cells, matrix, matrix.whole());
-            #[cfg(any(feature = "checked", target_pointer_width = "32"))]
-            let _ = FEW_ITEMS.put(cells, matrix, matrix.whole());
+            transpose_columns(cells, source, width, height)
         }
         _ => transpose_apart(cells, source, width, height),
     }
+}
+
+/// With debug assertions, a user's crate is often not optimized, and the package may be.
+#[cfg_attr(debug_assertions, inline(never))]
+#[cfg_attr(not(debug_assertions), inline(always))]
+fn transpose_columns<M: Output>(cells: M, source: impl Input<M::Item>, width: usize, height: usize) {
+    let matrix = Matrix::new(source, width, height);
+    #[cfg(not(any(feature = "checked", target_pointer_width = "32")))]
+    let _ = Columns.put(cells, matrix, matrix.whole());
+    #[cfg(any(feature = "checked", target_pointer_width = "32"))]
+    let _ = FEW_ITEMS.put(cells, matrix, matrix.whole());
 }
 
 #[inline(never)]

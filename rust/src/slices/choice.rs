@@ -7,7 +7,7 @@
 //! |---|---|---|
 //! | a whole call, fewer than two rows or columns | `Copied` | its items keep their order |
 //! | a whole call, one block: `side_of` | `Block` | in registers |
-//! | a whole call, fewer than 128 items of less than 1 KiB: `TINY_MATRIX`, `LONG_BYTES` | `Columns`, which a call inlines | another call would take as long |
+//! | a whole call, fewer than 128 items of less than 1 KiB: `TINY_MATRIX`, `LONG_BYTES` | `Columns`, which a call inlines without debug assertions | another call would take as long |
 //! | a whole call, up to 1048576 items: `LARGE_MATRIX` | `Strips` | the lines and pages in use stay in the caches |
 //! | 16 MiB and more: `PAST_CACHES`, items of 4 or 8 bytes at a multiple of their size, 12 columns and more of the matrix or part: `LINE_COLS`, of 4 bytes 16: `LINE_COLS_OF_FOUR`, a column of whole cache lines or of 768 bytes and more: `LONG_COLUMN`, and of 4 bytes then 128 rows and more of the matrix or part: `LINE_ROWS_OF_FOUR` | `Lines` | what is stored past the caches is not read first, but whole lines have to be stored. A part of a line, which a column may have at both of its ends, takes longer |
 //! | the same, items of 16 bytes, a column of 768 bytes and more | `Lines` | in a shorter column the stores of single items are as fast |

@@ -167,7 +167,7 @@ impl<F, D: squares::Register<F>> Places for SliceItems<'_, F, D> {
         // and parts of items are both read before they are written.
         unsafe {
             let (x, y) = (self.first.wrapping_add(i), self.first.wrapping_add(j));
-            if const { size_of::<F>() < 48 } {
+            if const { size_of::<F>() < 48 || cfg!(debug_assertions) && size_of::<F>() <= 64 } {
                 let (of_x, of_y) = (ptr::read(x), ptr::read(y));
                 write_item(y, of_x);
                 write_item(x, of_y);

@@ -57,6 +57,7 @@ impl<'a, K, V> Iterator for Iter<'a, K, V> {
 
     ghost remaining = { item_count (λ s. s) };
 
+    #[inline(always)]
     fn next(&mut self) -> Option<&'a (K, V)> {
         self.pairs.next()
     }
@@ -136,6 +137,7 @@ impl<'a, K, V> Iterator for Keys<'a, K, V> {
 
     ghost remaining = { item_count (λ s. s) };
 
+    #[inline(always)]
     fn next(&mut self) -> Option<&'a K> {
         let pair = self.pairs.next()?;
         Some(&pair.0)
@@ -217,6 +219,7 @@ impl<'a, K, V> Iterator for Values<'a, K, V> {
 
     ghost remaining = { item_count (λ s. s) };
 
+    #[inline(always)]
     fn next(&mut self) -> Option<&'a V> {
         let pair = self.pairs.next()?;
         Some(&pair.1)

@@ -13,7 +13,7 @@ ghost use Rattle.p3_util_kernels.specs.Powers.{HasLog2};
 /// power of two, and std's `is_power_of_two` does.
 ///
 /// This is `reverse_bits_len(x, k)`.
-#[inline]
+#[inline(always)]
 pub const fn reverse_bits(x: usize, n: usize) -> usize
     requires { HasLog2 n }
     ensures reversed { (k : ℕ) → n ≡ 2 ^ k → result ≡ rev_word k x }
@@ -25,7 +25,7 @@ pub const fn reverse_bits(x: usize, n: usize) -> usize
 
 /// Reverses the `bit_len` low binary digits of `x` and drops the others. `bit_len` must be at most
 /// 64, which this call does not check. A `bit_len` of 0 reverses all 64 digits.
-#[inline]
+#[inline(always)]
 pub const fn reverse_bits_len(x: usize, bit_len: usize) -> usize
     requires { bit_len ≤ 64 }
     ensures reversed { result ≡ rev_word bit_len x }

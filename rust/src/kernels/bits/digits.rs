@@ -24,7 +24,7 @@ use crate::width::Index as usize;
 /// ensures digits { (k : ℕ) → 1 ≤ k → n ≡ 2 ^ k → result ≡ rev k x }
 /// ensures below { x < n → result < n }
 /// ```
-#[inline]
+#[inline(always)]
 pub(crate) const fn reverse_bits(x: usize, n: usize) -> usize {
     reverse_bits_len(x, n.trailing_zeros() as usize)
 }
@@ -44,7 +44,7 @@ pub(crate) const fn reverse_bits(x: usize, n: usize) -> usize {
 /// ensures inverse { 1 ≤ bit_len → rev bit_len result ≡ x % 2 ^ bit_len }
 /// ensures twice { x < 2 ^ bit_len → rev_word bit_len result ≡ x }
 /// ```
-#[inline]
+#[inline(always)]
 pub(crate) const fn reverse_bits_len(x: usize, bit_len: usize) -> usize {
     let reversed = reverse_u64(x as u64) as usize;
     // If `bit_len` is 0, this shifts by 0 and keeps all 64 digits.

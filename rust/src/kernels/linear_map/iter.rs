@@ -37,6 +37,7 @@ impl<'a, K, V> Iter<'a, K, V> {
 impl<'a, K, V> Iterator for Iter<'a, K, V> {
     type Item = &'a (K, V);
 
+    #[inline(always)]
     fn next(&mut self) -> Option<&'a (K, V)> {
         self.pairs.next()
     }
@@ -105,6 +106,7 @@ impl<'a, K, V> Keys<'a, K, V> {
 impl<'a, K, V> Iterator for Keys<'a, K, V> {
     type Item = &'a K;
 
+    #[inline(always)]
     fn next(&mut self) -> Option<&'a K> {
         let pair = self.pairs.next()?;
         Some(&pair.0)
@@ -175,6 +177,7 @@ impl<'a, K, V> Values<'a, K, V> {
 impl<'a, K, V> Iterator for Values<'a, K, V> {
     type Item = &'a V;
 
+    #[inline(always)]
     fn next(&mut self) -> Option<&'a V> {
         let pair = self.pairs.next()?;
         Some(&pair.1)
