@@ -121,9 +121,7 @@
 //! # `parts/reversal.rt`
 //!
 //! ```text
-//! enum ReversalPlan { /// The number of items, and that of the items of each row. The call is the only part. If there
-//!     /// are no items, there is no part. Whole(usize, usize), /// Each patch of these pairs is a part.
-//!     Patches(RowPairs) }
+//! enum ReversalPlan { Whole(usize, usize), Patches(RowPairs) }
 //! fn ReversalPlan::new(len: usize, row_width: usize, parts: Option<usize>) -> ReversalPlan
 //!   requires: FitsRows len row_width
 //!   ensures width: width_of result ≡ row_width
