@@ -1,13 +1,9 @@
 -- Each turn of the loop puts one more block. Then follow the rows that remain.
-use Rattle.std.proofs.Common.{◌≡◌, ℕ, ◌+◌, ◌-◌, ◌*◌, ◌/◌, ◌<◌, ◌≤◌, refl, arith}
-use Rattle.std.proofs.Math.Nat.{div-mul-le_self, mul-le-mul_right}
+use Rattle.std.proofs.Common.{◌≡◌, ◌+◌, ◌-◌, ◌*◌, ◌/◌, ◌≤◌, inl, arith}
+use Rattle.std.proofs.Math.Nat.{div-mul-le_self}
 use Rattle.p3_util_kernels.specs.Region.{cols_of}
-use Rattle.p3_util_kernels.proofs.TransposeLemmas.Region.{IsCut-rows, IsRegionTransposed-rows}
+use Rattle.p3_util_kernels.proofs.TransposeLemmas.Region.{IsCut-rows, IsRegionTransposed-rows, nothing_put, part_inside}
 use Rattle.p3_util_kernels.proofs.transpose.ways.BlocksPutRegion.put.Goals as goal
-
--- a part is inside the region
-part_inside : (part rows all : ℕ) → part < all / rows → part * rows + rows ≤ all
-part_inside part rows all h = omega (arith, mul-le-mul_right rows (let next : part + 1 ≤ all / rows = omega (arith, h) in next), div-mul-le_self all rows)
 
 pub overflow_mul-row : goal.overflow_mul-row
 overflow_mul-row g c = omega (arith, part_inside c.loop-part.part c.max-rows.result c.rows.result (omega arith), c.rows.ensures)
@@ -28,7 +24,7 @@ pub loop-part-init : goal.loop-part-init
 loop-part-init g c =
     let none : 0 * c.max-rows.result * cols_of c.args.region ≡ 0 = omega arith in
     record {
-      transposed = record { same_length = refl; places = λ x y h. absurd (omega (arith, h.row_from, h.row_to)); others = λ p out. refl };
+      transposed = nothing_put _ _ _ _ _ (inl (omega arith));
       holder = rw none (g.met.M.Cells.same_holder_refl _);
     }
 

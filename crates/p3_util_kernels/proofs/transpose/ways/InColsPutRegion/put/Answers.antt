@@ -1,13 +1,9 @@
 -- Each turn of the loop puts one more part. Then follow the columns that remain.
-use Rattle.std.proofs.Common.{◌≡◌, ℕ, ◌+◌, ◌-◌, ◌*◌, ◌/◌, ◌<◌, ◌≤◌, refl, arith}
-use Rattle.std.proofs.Math.Nat.{div-mul-le_self, mul-le-mul_right}
+use Rattle.std.proofs.Common.{◌≡◌, ◌+◌, ◌-◌, ◌*◌, ◌/◌, ◌≤◌, inr, arith}
+use Rattle.std.proofs.Math.Nat.{div-mul-le_self}
 use Rattle.p3_util_kernels.specs.Region.{rows_of}
-use Rattle.p3_util_kernels.proofs.TransposeLemmas.Region.{IsCut-cols, IsRegionTransposed-cols}
+use Rattle.p3_util_kernels.proofs.TransposeLemmas.Region.{IsCut-cols, IsRegionTransposed-cols, nothing_put, part_inside}
 use Rattle.p3_util_kernels.proofs.transpose.ways.InColsPutRegion.put.Goals as goal
-
--- a part is inside the region
-part_inside : (part cols all : ℕ) → part < all / cols → part * cols + cols ≤ all
-part_inside part cols all h = omega (arith, mul-le-mul_right cols (let next : part + 1 ≤ all / cols = omega (arith, h) in next), div-mul-le_self all cols)
 
 pub overflow_mul-col : goal.overflow_mul-col
 overflow_mul-col g c = omega (arith, part_inside c.loop-part.part c.max-cols.result c.cols.result (omega arith), c.cols.ensures)
@@ -28,7 +24,7 @@ pub loop-part-init : goal.loop-part-init
 loop-part-init g c =
     let none : rows_of c.args.region * (0 * c.max-cols.result) ≡ 0 = omega arith in
     record {
-      transposed = record { same_length = refl; places = λ x y h. absurd (omega (arith, h.col_from, h.col_to)); others = λ p out. refl };
+      transposed = nothing_put _ _ _ _ _ (inr (omega arith));
       holder = rw none (g.met.M.Cells.same_holder_refl _);
     }
 

@@ -1,7 +1,7 @@
 -- Each turn of the loop puts one more part, in one of two ways.
-use Rattle.std.proofs.Common.{◌≡◌, ◌+◌, ◌-◌, ◌*◌, ◌∙◌, refl, ap, arith}
+use Rattle.std.proofs.Common.{◌≡◌, ◌+◌, ◌-◌, ◌*◌, ◌∙◌, inl, ap, arith}
 use Rattle.p3_util_kernels.specs.Region.{IsRegionTransposed, cols_of, items_of}
-use Rattle.p3_util_kernels.proofs.TransposeLemmas.Region.{IsCut-rows, IsRegionTransposed-rows}
+use Rattle.p3_util_kernels.proofs.TransposeLemmas.Region.{IsCut-rows, IsRegionTransposed-rows, nothing_put}
 use Rattle.p3_util_kernels.proofs.transpose.ways.InRowsPutRegion.put.Goals.{then-rows-most, else-rows-most}
 use Rattle.p3_util_kernels.proofs.transpose.ways.InRowsPutRegion.put.Goals as goal
 
@@ -12,7 +12,7 @@ loop-row-init g c =
     record {
       from = omega arith;
       to = omega arith;
-      transposed = record { same_length = refl; places = λ x y h. absurd (omega (arith, h.row_from, h.row_to)); others = λ p out. refl };
+      transposed = nothing_put _ _ _ _ _ (inl (omega arith));
       holder = rw none (g.met.M.Cells.same_holder_refl _);
     }
 
