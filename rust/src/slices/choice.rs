@@ -9,8 +9,7 @@
 //! | a whole call, one block: `side_of` | `Block` | in registers |
 //! | a whole call, fewer than 128 items of less than 1 KiB: `TINY_MATRIX`, `LONG_BYTES` | `Columns`, which a call inlines without debug assertions | another call would take as long |
 //! | a whole call, up to 1048576 items: `LARGE_MATRIX` | `Strips` | the lines and pages in use stay in the caches |
-//! | 16 MiB and more: `PAST_CACHES`, items of 4 or 8 bytes at a multiple of their size, 12 columns and more of the matrix or part: `LINE_COLS`, of 4 bytes 16: `LINE_COLS_OF_FOUR`, a column of whole cache lines or of 768 bytes and more: `LONG_COLUMN`, and of 4 bytes then 128 rows and more of the matrix or part: `LINE_ROWS_OF_FOUR` | `Lines` | what is stored past the caches is not read first, but whole lines have to be stored. A part of a line, which a column may have at both of its ends, takes longer |
-//! | the same, items of 16 bytes, a column of 768 bytes and more | `Lines` | in a shorter column the stores of single items are as fast |
+//! | 16 MiB and more: `PAST_CACHES`, items of 4, 8 or 16 bytes at a multiple of their size, 128 bytes and more in a row of the matrix or part: `LINE_ROW`, and 320 in a column: `LONG_COLUMN` | `Lines` | what is stored past the caches is not read first, but whole lines have to be stored. A part of a line, which a column may have at both of its ends, takes longer |
 //! | all others | `Leaves`, with the same strips | a leaf stays in the caches |
 //!
 //! | Items | Strips | Why |
@@ -36,24 +35,15 @@ pub(super) const LONG_BYTES: usize = 1024;
 /// On aarch64, lines were not tried.
 const HAS_LINES: bool = USES_REGISTERS && cfg!(target_arch = "x86_64");
 
-// The limits of lines, by bytes, columns, rows, and bytes of a column: see the table.
+// The limits of lines, by bytes of the list, of a row, and of a column: see the table.
 const PAST_CACHES: usize = 1 << 24;
-const LINE_COLS: usize = 12;
-const LINE_COLS_OF_FOUR: usize = 16;
-const LINE_ROWS_OF_FOUR: usize = 128;
-const LONG_COLUMN: usize = 768;
+const LINE_ROW: usize = 128;
+const LONG_COLUMN: usize = 320;
 
-// These limits: bytes of the list, columns, columns and rows of 4 bytes, and bytes of a column.
-pub(super) const OF_USERS: [usize; 5] = [
-    PAST_CACHES,
-    LINE_COLS,
-    LINE_COLS_OF_FOUR,
-    LINE_ROWS_OF_FOUR,
-    LONG_COLUMN,
-];
+pub(super) const OF_USERS: [usize; 3] = [PAST_CACHES, LINE_ROW, LONG_COLUMN];
 
 /// In most tests, short lists are put by lines too.
-pub(super) const LIMITS: [usize; 5] = if cfg!(test) { [1 << 10, 1, 1, 1, 1] } else { OF_USERS };
+pub(super) const LIMITS: [usize; 3] = if cfg!(test) { [1 << 10, 1, 1] } else { OF_USERS };
 
 /// With the feature `checked`, items of so many bytes are put one by one if their list has more than `ROWS_LONG_LIST` bytes.
 const ROWS_LONG_ITEM: usize = 16;
@@ -97,21 +87,16 @@ pub(super) fn short_choice_of(size: usize, width: usize, height: usize) -> Optio
 /// How a matrix of this width and height is put that has no short choice, or a part of it. `at` is the address of the
 /// first cell of the output.
 #[inline(always)]
-pub(super) fn choice_of(limits: [usize; 5], size: usize, sides: [usize; 2], part: Option<Region>, at: usize) -> Choice {
+pub(super) fn choice_of(limits: [usize; 3], size: usize, sides: [usize; 2], part: Option<Region>, at: usize) -> Choice {
     let [width, height] = sides;
     let (rows, cols) = match part {
         None if width * height <= LARGE_MATRIX => return Choice::Strips,
         None => (height, width),
         Some(region) => (region.rows(), region.cols()),
     };
-    let [large, some_cols, cols_of_four, rows_of_four, long] = limits;
-    let column = height * size;
-    // In a part of few rows, a column has hardly a whole line, and at both of its ends a part of one.
-    let fits_4 = cols >= cols_of_four && (rows >= rows_of_four || column % LINE == 0);
-    let has_columns = cols >= some_cols && (size != 4 || fits_4);
-    let is_large = width * column >= large && has_columns;
-    let is_long = column >= long || size < 16 && column % LINE == 0;
-    if HAS_LINES && matches!(size, 4 | 8 | 16) && at % size == 0 && is_large && is_long {
+    let [large, long_row, long_column] = limits;
+    let is_long = width * height * size >= large && cols * size >= long_row && rows * size >= long_column;
+    if HAS_LINES && matches!(size, 4 | 8 | 16) && at % size == 0 && is_long {
         Choice::Lines
     } else {
         Choice::Leaves

@@ -17,7 +17,7 @@ const HAS_LINES: bool = USES_REGISTERS && cfg!(target_arch = "x86_64");
 
 /// How some rows and columns of a matrix are put, as a part of a call that is cut.
 fn choice_of_part(
-    limits: [usize; 5],
+    limits: [usize; 3],
     size: usize,
     sides: [usize; 2],
     [rows, cols]: [usize; 2],
@@ -37,7 +37,7 @@ fn choice_of_all(size: usize, width: usize, height: usize, first: usize) -> Choi
     choice_of_part(LIMITS, size, [width, height], [height, width], first)
 }
 
-/// Each row of the first table, by the limits of these tests. With them a list of 1024 bytes is long, and so is every column.
+/// Each row of the first table, by the limits of these tests. With them a list of 1024 bytes is long, and so is every row and column.
 #[test]
 fn choices() {
     for size in [1, 2, 3, 4, 8, 12, 16, 32, 1023] {
@@ -169,32 +169,23 @@ fn lines_of_long_lists() {
 fn lines_of_users() {
     // The size of an item, the width and the height of the matrix, the rows and the columns of the part.
     let by_lines = [
-        (4, [4096, 1024], [1024, 16]),
-        (8, [2048, 1024], [1024, 12]),
-        (16, [1024, 1024], [1024, 12]),
-        (8, [1 << 18, 8], [8, 12]),
-        (8, [1 << 20, 88], [1, 12]),
-        (8, [1 << 20, 97], [1, 12]),
-        (16, [1 << 20, 48], [1, 12]),
-        (16, [1 << 20, 49], [1, 12]),
-        (4, [1 << 20, 16], [16, 16]),
-        (4, [1 << 20, 192], [1, 16]),
-        (4, [1 << 20, 193], [128, 16]),
+        (4, [4096, 1024], [1024, 32]),
+        (8, [2048, 1024], [1024, 16]),
+        (16, [1024, 1024], [1024, 8]),
+        (4, [1 << 20, 80], [80, 32]),
+        (8, [1 << 20, 40], [40, 16]),
+        (16, [1 << 20, 21], [20, 8]),
     ];
     let not_by_lines = [
         (4, [4095, 1024], [1024, 4095]),
         (8, [2047, 1024], [1024, 2047]),
         (16, [1023, 1024], [1024, 1023]),
-        (4, [4096, 1024], [1024, 15]),
-        (8, [2048, 1024], [1024, 11]),
-        (16, [1024, 1024], [1024, 11]),
-        (8, [1 << 20, 95], [95, 1 << 19]),
-        (8, [1 << 20, 9], [9, 1 << 19]),
-        (16, [1 << 20, 47], [47, 1 << 19]),
-        (16, [1 << 20, 44], [44, 1 << 19]),
-        (16, [1 << 20, 4], [4, 1 << 19]),
-        (4, [1 << 20, 191], [191, 1 << 19]),
-        (4, [1 << 20, 193], [127, 1 << 19]),
+        (4, [4096, 1024], [1024, 31]),
+        (8, [2048, 1024], [1024, 15]),
+        (16, [1024, 1024], [1024, 7]),
+        (4, [1 << 20, 79], [79, 1 << 19]),
+        (8, [1 << 20, 1024], [39, 1 << 19]),
+        (16, [1 << 20, 20], [19, 1 << 19]),
         (2, [1 << 20, 1024], [1024, 1 << 19]),
         (12, [1 << 20, 1024], [1024, 1 << 19]),
         (32, [1 << 20, 1024], [1024, 1 << 19]),
