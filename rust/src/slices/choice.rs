@@ -26,9 +26,6 @@ use crate::kernels::transpose::{Blocks, Columns, HIGH_ROWS, LARGE_MATRIX, Region
 #[cfg(target_pointer_width = "32")]
 use crate::width::Index as usize;
 
-/// The bytes of a cache line.
-pub(super) const LINE: usize = 64;
-
 /// An item of so many bytes is exchanged as a run of bytes, which takes hardly longer, and is put by its index.
 pub(super) const LONG_BYTES: usize = 1024;
 

@@ -17,7 +17,7 @@ pub(crate) use registers::USES_REGISTERS;
 pub(super) use registers::{Items, Vector};
 
 use super::by_type::{Input, Output};
-use super::choice::{LINE, side_of};
+use super::choice::side_of;
 use crate::kernels::lines::Lines;
 use crate::kernels::places::{Block, Cells, Places, Source};
 use crate::kernels::registers::{self as squares, Runs, Single, Two};
@@ -28,6 +28,9 @@ mod cache;
 pub(super) mod registers;
 #[cfg(all(test, not(miri)))]
 mod tests;
+
+/// The bytes of a cache line.
+const LINE: usize = 64;
 
 /// The items of a slice, as places or as cells, for one kernel or for one part.
 ///
