@@ -5,9 +5,7 @@
 
 use std::array::from_fn;
 use std::boxed::Box;
-use std::cmp::Ordering;
 use std::fmt::Debug;
-use std::num::NonZero;
 use std::panic::{AssertUnwindSafe, catch_unwind};
 use std::vec::Vec;
 
@@ -17,7 +15,6 @@ use super::holders::Bytes;
 #[cfg(not(feature = "checked"))]
 use super::holders::{Items, USES_REGISTERS, Vector};
 use super::holders::{SliceItems, SliceSource};
-use super::parts::{ReversalPart, TransposePart};
 use crate::kernels::places::{Block, Cells, Places, Source};
 #[cfg(not(feature = "checked"))]
 use crate::kernels::registers::{Pair, Paired, Register, Runs, Single, Two};
@@ -298,35 +295,7 @@ fn turns<T: Debug + PartialEq + 'static>(item: impl Fn(usize) -> T) {
     of_each_holder!(T, Holder => turns_of::<T, Holder>(&item));
 }
 
-/// Reverses the order of rows of the items that `item` makes, of widths up to and beyond those of narrow rows.
-fn reverses_rows<T: Debug + PartialEq>(item: impl Fn(usize) -> T) {
-    for width in (1..=34).chain([64, 65]) {
-        for bits in 0..=7 {
-            let mut list: Vec<T> = (0..width << bits).map(&item).collect();
-            super::reverse_slice_row_index_bits(&mut list, width);
-            for (place, got) in list.iter().enumerate() {
-                let wanted = item(reversed(bits, place / width) * width + place % width);
-                assert_eq!(*got, wanted, "place {place} of 2^{bits} rows of {width}");
-            }
-        }
-    }
-}
-
-#[test]
-fn rows_of_all_widths() {
-    reverses_rows(byte);
-    reverses_rows(|number| number as u16);
-    reverses_rows(parts::<1>);
-    reverses_rows(|number| [number as u8; 5]);
-    reverses_rows(|number| number);
-    reverses_rows(parts::<5>);
-    reverses_rows(parts::<8>);
-    reverses_rows(Box::new);
-    let mut list = [0; 48];
-    assert!(panics(|| super::reverse_slice_row_index_bits(&mut list, 16)));
-    assert!(panics(|| super::reverse_slice_row_index_bits(&mut list[..33], 2)));
-}
-
+#[cfg(any(debug_assertions, feature = "checked"))]
 fn panics(call: impl FnOnce()) -> bool {
     catch_unwind(AssertUnwindSafe(call)).is_err()
 }
@@ -572,20 +541,14 @@ fn blocks_of_lines() {
     streams::<u128, Two<Whole>>();
 }
 
-/// Whether a matrix of the items that `item` makes is transposed as defined, both by blocks and by the strips that a
-/// call chooses.
-fn is_transposed<T: Copy + PartialEq + Send + Sync + 'static>(
-    width: usize,
-    height: usize,
-    item: impl Fn(usize) -> T,
-) -> bool {
+/// Transposes a matrix of the items that `item` makes by blocks, with each holder.
+fn transposes_by_blocks<T: Copy + PartialEq + 'static>(width: usize, height: usize, item: impl Fn(usize) -> T) {
     let input: Vec<T> = (0..width * height).map(&item).collect();
     let expected: Vec<T> = (0..width * height)
         .map(|place| item(transposed(width, height, place)))
         .collect();
-    let blank = std::vec![item(usize::MAX); width * height];
     of_each_holder!(T, Holder => for side in [4, 8] {
-        let mut output = blank.clone();
+        let mut output = std::vec![item(usize::MAX); width * height];
         let matrix = Matrix::new(SliceSource::new(&input), width, height);
         let cells = Holder::hold(&mut output);
         let _ = match side {
@@ -594,9 +557,6 @@ fn is_transposed<T: Copy + PartialEq + Send + Sync + 'static>(
         };
         assert!(output == expected, "{width} by {height}, by blocks of {side} by {side}");
     });
-    let mut by_call = blank.clone();
-    super::transpose(&input, &mut by_call, width, height);
-    by_call == expected
 }
 
 #[test]
@@ -612,45 +572,11 @@ fn blocks_as_defined() {
     ];
     let small = (1..=40).flat_map(|width| (1..=40).map(move |height| (width, height)));
     for (width, height) in small.chain(large) {
-        assert!(is_transposed(width, height, |i| i as u32), "{width} by {height}");
-        assert!(is_transposed(width, height, |i| i as u64), "{width} by {height}");
-        assert!(is_transposed(width, height, Float::odd), "{width} by {height}");
-        assert!(is_transposed(width, height, Double::odd), "{width} by {height}");
-        assert!(
-            is_transposed(width, height, |i| (i as u8, (i >> 8) as u16)),
-            "{width} by {height}"
-        );
-    }
-}
-
-/// Whether a matrix of the items that `item` makes is transposed in parts, which are cut at multiples of 16 columns or
-/// rows.
-fn is_transposed_in_parts<T: Copy + PartialEq + Send + Sync>(
-    width: usize,
-    height: usize,
-    item: impl Fn(usize) -> T,
-) -> bool {
-    let input: Vec<T> = (0..width * height).map(&item).collect();
-    let cuts = 1..=width.max(height).div_ceil(16);
-    cuts.into_iter().all(|count| {
-        let mut output = std::vec![item(usize::MAX); input.len()];
-        super::parts::transpose(&input, &mut output, width, height, count).for_each(TransposePart::run);
-        (0..output.len()).all(|place| output[place] == input[transposed(width, height, place)])
-    })
-}
-
-#[test]
-fn blocks_of_parts() {
-    let sides = [8, 15, 16, 17, 20, 32, 47, 64, 90, 131];
-    for (width, height) in sides.into_iter().flat_map(|width| sides.map(|height| (width, height))) {
-        assert!(
-            is_transposed_in_parts(width, height, |i| i as u32),
-            "{width} by {height}"
-        );
-        assert!(
-            is_transposed_in_parts(width, height, |i| i as u64),
-            "{width} by {height}"
-        );
+        transposes_by_blocks(width, height, |i| i as u32);
+        transposes_by_blocks(width, height, |i| i as u64);
+        transposes_by_blocks(width, height, Float::odd);
+        transposes_by_blocks(width, height, Double::odd);
+        transposes_by_blocks(width, height, |i| (i as u8, (i >> 8) as u16));
     }
 }
 
@@ -925,89 +851,4 @@ fn places_of_parts() {
     assert_eq!([1, 2, 4, 8, 32].map(place::<4>), [4, 8, 16, 32, 1]);
     assert_eq!([1, 2, 4, 64].map(place::<3>), [3, 1, 12, 1]);
     assert_eq!([place::<48>(1), place::<64>(2)], [48, 1]);
-}
-
-/// Reverses items, rows and parts of the items that `item` makes. Then each item is dropped, which it would be twice or
-/// never if it was at two places or at none.
-fn reverses<T: Debug + PartialEq + Send + Sync>(item: impl Fn(usize) -> T) {
-    for (bits, width) in (0..=8).flat_map(|bits| [1, 2, 3, 5, 8].map(|width| (bits, width))) {
-        let reversed = |row| reversed(bits, row);
-        let check = |list: &[T], wanted: &dyn Fn(usize) -> usize| {
-            let is = |(place, got): (usize, &T)| *got == item(wanted(place / width) * width + place % width);
-            assert!(list.iter().enumerate().all(is), "2^{bits} rows of {width}: {list:?}");
-        };
-        let mut list: Vec<T> = (0..width << bits).map(&item).collect();
-        super::reverse_slice_row_index_bits(&mut list, width);
-        check(&list, &reversed);
-        // With the feature `checked` each reversal is one part.
-        super::parts::cut(&mut list, width, cfg!(not(feature = "checked")).then_some(2)).for_each(ReversalPart::run);
-        check(&list, &|row| row);
-        super::parts::cut(&mut list, width, None).for_each(ReversalPart::run);
-        check(&list, &reversed);
-        if width == 1 {
-            super::reverse_slice_index_bits(&mut list);
-            check(&list, &|row| row);
-        }
-    }
-}
-
-/// Transposes matrices of the items that `item` makes, as a whole and in parts.
-fn transposes<T: Copy + Debug + PartialEq + Send + Sync>(item: impl Fn(usize) -> T) {
-    for (width, height) in [(2, 3), (8, 8), (5, 40), (33, 20)] {
-        let input: Vec<T> = (0..width * height).map(&item).collect();
-        let wanted = |place| item(transposed(width, height, place));
-        for parts in 0..3 {
-            let mut output = std::vec![item(0); input.len()];
-            match parts {
-                0 => super::transpose(&input, &mut output, width, height),
-                _ => super::parts::transpose(&input, &mut output, width, height, parts).for_each(TransposePart::run),
-            }
-            assert!(
-                output.into_iter().eq((0..input.len()).map(wanted)),
-                "{width} by {height}"
-            );
-        }
-    }
-}
-
-/// Items with a destructor, of sizes that have kernels in the package and of others.
-#[test]
-fn owners() {
-    let text = |number: usize| std::format!("item {number}");
-    reverses(Box::new);
-    reverses(|number| (number % 3 > 0).then(|| Box::new(number)));
-    reverses(|number| (Box::new(number), number as u8));
-    reverses(|number| text(number).into_boxed_str());
-    reverses(text);
-    reverses(|number| (text(number), number as u8));
-    reverses(|number| (text(number), text(number + 1), Box::new(number), number as u8));
-    reverses(|number| std::vec![Box::new(number); number % 3]);
-    reverses(|number| from_fn::<_, 50, _>(|k| text(number + k)));
-}
-
-/// Items with padding, with values that no item has, and with pointers, of the same sizes.
-#[test]
-fn padding_and_pointers() {
-    static TEXT: &str = "items of a text that is borrowed by all of them, in pieces of up to seven bytes";
-    macro_rules! moves {
-        ($($item:expr),*) => { $(reverses($item); transposes($item);)* };
-    }
-    moves![
-        |number| number % 3 == 0,
-        |number| (number % 2 > 0).then_some(number % 3 > 0),
-        |number| -> Ordering { number.cmp(&9) },
-        |number| (number as u8, number as u16),
-        |number| char::from_u32(number as u32 * 7 + 64),
-        |number| NonZero::new(number as u32 % 5),
-        |number| (number as u8, number as u32 + 1),
-        |number| TEXT.as_bytes().get(number % 90),
-        |number| (number as u32, number as u32 + 1, number as u8),
-        |number| &TEXT[number % 64..number % 64 + number % 8],
-        |number| (TEXT.as_bytes().get(number % 90), number as u8),
-        |number| ([number as u32; 4], number as u8),
-        |number| (Some(&TEXT[number % 64..]), number),
-        |number| ([number; 3], number as u8),
-        |number| ([&TEXT[number % 64..]; 3], number, number as u8),
-        |number| ([number; 140], number as u8)
-    ];
 }

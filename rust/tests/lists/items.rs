@@ -1,33 +1,54 @@
-//! Items of every alignment and kind. The test program `sizes` has those of every size up to 72 bytes, and the tests of
-//! `slices/` have rows of many types.
+//! Items of every alignment and kind. The test program `sizes` has those of every size up to 72 bytes.
 
 use std::array;
 use std::fmt::Debug;
+use std::num::NonZero;
 use std::rc::Rc;
 use std::sync::atomic::{AtomicUsize, Ordering::Relaxed};
 
+use p3_util_proved::parts::{self, ReversalPart, TransposePart, row_reversal};
 use p3_util_proved::transpose::transpose;
 use p3_util_proved::{reverse_slice_index_bits, reverse_slice_row_index_bits};
 
 use crate::common::{Owner, reversed, transposed};
 use crate::refusal::panics;
 
-/// Reverses lists of the items that `item` makes, and compares each place. The longest lists have squares of 4 leaves of
-/// the kernel.
-fn moves<F: Debug + PartialEq + Send + Sync>(item: impl Fn(usize) -> F) {
-    for bits in (0..=12).chain([15, 16]) {
-        let mut list: Vec<F> = (0..1 << bits).map(&item).collect();
-        reverse_slice_index_bits(&mut list);
-        for (i, got) in list.iter().enumerate() {
-            assert_eq!(*got, item(reversed(bits, i)), "place {i} of 2^{bits}");
-        }
+/// Reverses 2^`bits` rows of `width` of the items that `item` makes, and reverses them back in parts. Then each item is dropped,
+/// which it would be twice or never if it was at two places or at none.
+fn reverses<F: Debug + PartialEq + Send + Sync>(item: impl Fn(usize) -> F, bits: u32, width: usize) {
+    let mut list: Vec<F> = (0..width << bits).map(&item).collect();
+    match width {
+        1 => reverse_slice_index_bits(&mut list),
+        _ => reverse_slice_row_index_bits(&mut list, width),
+    }
+    for (i, got) in list.iter().enumerate() {
+        let wanted = item(reversed(bits, i / width) * width + i % width);
+        assert_eq!(*got, wanted, "place {i} of 2^{bits} rows of {width}");
+    }
+    row_reversal(&mut list, width, 2).for_each(ReversalPart::run);
+    for (i, got) in list.iter().enumerate() {
+        assert_eq!(*got, item(i), "place {i} of 2^{bits} rows of {width} in parts");
     }
 }
 
-/// Transposes matrices of the items that `item` makes, and calls `moves` for them too.
+/// Reverses lists and rows of the items that `item` makes. The longest lists have squares of several leaves of the kernel, and
+/// are cut into parts: they have more than 2^16 items, or more than 2^21 bytes.
+fn moves<F: Debug + PartialEq + Send + Sync>(item: impl Fn(usize) -> F) {
+    let (short, long) = match size_of::<F>() {
+        _ if cfg!(miri) => (0..=6, [8, 9]),
+        ..=64 => (0..=12, [16, 17]),
+        _ => (0..=12, [13, 14]),
+    };
+    short.chain(long).for_each(|bits| reverses(&item, bits, 1));
+    for (bits, width) in (0..=6).flat_map(|bits| [2, 3, 5, 8].map(|width| (bits, width))) {
+        reverses(&item, bits, width);
+    }
+}
+
+/// Transposes matrices of the items that `item` makes, whole and in parts, and calls `moves` for them too.
 fn serves<T: Copy + Debug + PartialEq + Send + Sync>(item: impl Fn(usize) -> T) {
     moves(&item);
-    for (width, height) in [
+    let shapes = [
         (1, 7),
         (5, 3),
         (4, 4),
@@ -36,13 +57,21 @@ fn serves<T: Copy + Debug + PartialEq + Send + Sync>(item: impl Fn(usize) -> T) 
         (33, 40),
         (64, 48),
         (300, 60),
-    ] {
+    ];
+    for ((width, height), parts) in shapes
+        .into_iter()
+        .take(if cfg!(miri) { 6 } else { 8 })
+        .flat_map(|shape| [0, 1, 2].map(|parts| (shape, parts)))
+    {
         let input: Vec<T> = (0..width * height).map(&item).collect();
         let mut output = vec![item(0); input.len()];
-        transpose(&input, &mut output, width, height);
+        match parts {
+            0 => transpose(&input, &mut output, width, height),
+            _ => parts::transpose(&input, &mut output, width, height, parts).for_each(TransposePart::run),
+        }
         for (i, got) in output.iter().enumerate() {
             let wanted = item(transposed(width, height, i));
-            assert_eq!(*got, wanted, "place {i} of {width} by {height}");
+            assert_eq!(*got, wanted, "place {i} of {width} by {height} in {parts} parts");
         }
     }
 }
@@ -81,9 +110,14 @@ struct Padded {
 #[repr(align(32))]
 struct Aligned(u8);
 
+/// Items with padding, with values that no item has, and with pointers, of sizes that have kernels in the package and of others.
 #[test]
-fn structs_and_references() {
-    let words = ["zero", "one", "two", "three"];
+fn padding_and_pointers() {
+    static TEXT: &str = "items of a text that is borrowed by all of them, in pieces of up to seven bytes";
+    let byte = |i| TEXT.as_bytes().get(i % 90);
+    serves(|i| i % 3 == 0);
+    serves(|i| (i % 2 > 0).then_some(i % 3 > 0));
+    serves(|i| i.cmp(&9));
     serves(|i| Padded {
         small: i as u8,
         large: !(i as u32),
@@ -91,11 +125,50 @@ fn structs_and_references() {
     serves(|i| (i as u16, i as u8));
     serves(|i| Aligned(i as u8));
     serves(|i| (i % 3 > 0).then_some(i as u32));
-    serves(|i| words[i % 4]);
-    serves(|i| &words[i % 4]);
-    serves(|i| char::from_u32(i as u32));
-    moves(|i| i.to_string());
+    serves(|i| char::from_u32(i as u32 * 7 + 64));
+    serves(|i| NonZero::new(i as u32 % 5));
+    serves(byte);
+    serves(|i| (i as u32, i as u32 + 1, i as u8));
+    serves(|i| &TEXT[i % 64..i % 64 + i % 8]);
+    serves(|i| (byte(i), i as u8));
+    serves(|i| ([i as u32; 4], i as u8));
+    serves(|i| (Some(&TEXT[i % 64..]), i));
+    serves(|i| ([i; 3], i as u8));
+    serves(|i| ([&TEXT[i % 64..]; 3], i, i as u8));
+    serves(|i| ([i; 140], i as u8));
+}
+
+/// Items with a destructor, of sizes that have kernels in the package and of others.
+#[test]
+fn items_with_destructors() {
+    let text = |i: usize| i.to_string();
     moves(Box::new);
+    moves(|i| (i % 3 > 0).then(|| Box::new(i)));
+    moves(|i| (Box::new(i), i as u8));
+    moves(|i| text(i).into_boxed_str());
+    moves(text);
+    moves(|i| (text(i), i as u8));
+    moves(|i| (text(i), text(i + 1), Box::new(i), i as u8));
+    moves(|i| vec![Box::new(i); i % 3]);
+    moves(|i| array::from_fn::<_, 50, _>(|k| text(i + k)));
+}
+
+/// Rows of widths up to and beyond those of narrow rows.
+#[test]
+fn rows_of_all_widths() {
+    for (width, bits) in (1..=34)
+        .chain([64, 65])
+        .flat_map(|width| (0..=7).map(move |bits| (width, bits)))
+    {
+        reverses(|i| (i * 7 + (i >> 8) * 31) as u8, bits, width);
+        reverses(|i| i as u16, bits, width);
+        reverses(|i| i as u32, bits, width);
+        reverses(|i| [i as u8; 5], bits, width);
+        reverses(|i| i, bits, width);
+        reverses(|i| [i as u32; 5], bits, width);
+        reverses(|i| [i as u64; 4], bits, width);
+        reverses(Box::new, bits, width);
+    }
 }
 
 /// Reverses 2^`bits` rows of `width` owners twice. Until the list is dropped no owner is dropped, and then each of them

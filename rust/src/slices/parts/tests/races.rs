@@ -47,6 +47,13 @@ impl Number for usize {
     }
 }
 
+/// These have padding and a pointer.
+impl Number for (u8, &'static str) {
+    fn of(number: usize) -> Self {
+        (number as u8, &"a text"[number % 6..])
+    }
+}
+
 /// Transposes a matrix of numbers in at most `parts` parts.
 fn transposes<T: Number>(width: usize, height: usize, parts: usize, threads: usize) {
     let input: Vec<T> = (0..width * height).map(T::of).collect();
@@ -79,6 +86,7 @@ fn parts_on_threads() {
         transposes::<u32>(1 + round * 7 % 97, 16 + round % 5 * 16, parts, threads);
         reverses::<u32>(round % 13, 1, parts, threads);
         reverses::<usize>(round % 12, 1, parts, threads);
+        reverses::<(u8, &str)>(round % 9, 1 + round % 2, parts, threads);
         reverses::<usize>(round % 8, 2 + round % 3, parts, threads);
     }
 }
