@@ -210,13 +210,3 @@ pub fn sides_of(n: usize) -> (usize, usize)
     let k = log2_strict_usize(n);
     (1usize << (k / 2), 1usize << (k - k / 2))
 }
-
-/// The least number of halvings after which at most one of `n` items is left. One halving less
-/// leaves more.
-pub fn rounds_to_one(n: usize) -> usize
-    requires { 1 < n }
-    ensures enough { n ≤ 2 ^ result }
-    ensures needed { 2 ^ (result - 1) < n }
-{
-    log2_ceil_usize(n)
-}

@@ -3,7 +3,7 @@
 
 ghost use Rattle.std.specs.Prelude.{◌≡◌, ◌<◌, IsFalse, IsTrue, length, swap, zip};
 ghost use Rattle.std.proofs.Common.{rules};
-ghost use Rattle.p3_util.specs.Reversal.{IsReversal, IsReversible};
+ghost use Rattle.p3_util.specs.Reversal.{IsReversal};
 
 use p3_util::places::Places;
 use p3_util::{fits_rows, reverse_counted};
@@ -64,15 +64,6 @@ fn exchange_pairs<K, V>(keys: &mut [K], values: &mut [V], i: usize, j: usize)
 {
     keys.swap(i, j);
     values.swap(i, j);
-}
-
-/// Reverses the pairs by index bits. Each value stays with its key.
-pub fn reverse_pairs<K, V>(pairs: &mut Pairs<K, V>)
-    requires { IsReversible (length (zip pairs.old.keys.now pairs.old.values.now)) }
-    ensures { IsReversal (zip pairs.old.keys.now pairs.old.values.now)
-        (zip pairs.new.keys.now pairs.new.values.now) }
-{
-    reverse_counted(pairs);
 }
 
 /// Pairs two slices, reverses the pairs by index bits, and returns `true`, if the number of pairs is

@@ -1,6 +1,6 @@
 //! Callers of the transposes.
 
-ghost use Rattle.std.specs.Prelude.{◌≡◌, ◌+◌, ◌-◌, ◌*◌, ◌^◌, ◌<◌, ◌≤◌, ◌↔◌, ℕ, IsTrue, IsFalse, length, slice_get};
+ghost use Rattle.std.specs.Prelude.{◌≡◌, ◌+◌, ◌-◌, ◌*◌, ◌^◌, ◌<◌, ◌≤◌, ℕ, IsTrue, IsFalse, length, slice_get};
 ghost use Rattle.p3_util.specs.Levels.{lev, nest};
 ghost use Rattle.p3_util.specs.Region.{IsRegionTransposed, LiesInMatrix, cols_of, items_of, rows_of};
 ghost use Rattle.p3_util.specs.Square.{IsSquareTransposed};
@@ -15,27 +15,6 @@ use p3_util::transpose::{
     transpose_region_on, transpose_source_region_counted, transpose_source_region_on,
     transpose_source_split_on, transpose_split_on, transpose_square_counted, transpose_square_on,
 };
-
-/// Transposes `matrix`, of `height` rows of `width` items, by way of `scratch`, and returns `true`,
-/// if both have `width * height` items. Otherwise returns `false` and changes nothing.
-pub fn transpose_by_way_of<T: Copy>(
-    matrix: &mut [T],
-    scratch: &mut [T],
-    width: usize,
-    height: usize,
-) -> bool
-    ensures done { IsTrue result → IsTranspose width height matrix.old matrix.new }
-    ensures left { IsFalse result → matrix.new ≡ matrix.old }
-    ensures fits { IsTrue result ↔ ((length matrix.old ≡ width * height)
-        × (length scratch.old ≡ width * height)) }
-{
-    if !fits_matrix(matrix.len(), scratch.len(), width, height) {
-        return false;
-    }
-    transpose(matrix, scratch, width, height);
-    matrix.copy_from_slice(scratch);
-    true
-}
 
 /// Writes the transpose of `input` to `output`, and returns the number of writes.
 pub fn transpose_and_count<T: Copy>(
