@@ -64,6 +64,12 @@ impl<'a, T, D, const STREAM: bool> SliceItems<'a, T, D, STREAM> {
         SliceItems { first, len, slice }
     }
 
+    /// The cache lines of the output.
+    #[inline(always)]
+    pub(super) fn lines(&self) -> Lines {
+        Lines::new(LINE / size_of::<T>(), self.first.addr() % LINE / size_of::<T>())
+    }
+
     /// Whether the cells of a block may be streamed: each column is a line of the output, and a fence follows.
     #[inline(always)]
     pub(super) fn may_stream(&self, block: Block) -> bool {
@@ -148,8 +154,7 @@ impl<T: Copy, D: squares::Register<T>> Output for SliceItems<'_, T, D> {
     #[inline(never)]
     fn put_by_lines(self, matrix: Matrix<impl Input<T>>, region: Region) {
         if const { matches!(size_of::<T>(), 4 | 8 | 16) } {
-            let lines = Lines::new(LINE / size_of::<T>(), self.address() % LINE / size_of::<T>());
-            self.past_caches(|cells| _ = lines.put(cells, matrix, region));
+            self.past_caches(|cells| _ = cells.lines().put(cells, matrix, region));
         }
     }
 }

@@ -851,4 +851,5 @@ fn places_of_parts() {
     assert_eq!([1, 2, 4, 8, 32].map(place::<4>), [4, 8, 16, 32, 1]);
     assert_eq!([1, 2, 4, 64].map(place::<3>), [3, 1, 12, 1]);
     assert_eq!([place::<48>(1), place::<64>(2)], [48, 1]);
+    assert_eq!([place::<1023>(1), place::<1024>(1)], [1023, 1]);
 }

@@ -23,9 +23,11 @@ macro_rules! calls {
             }
             )*
 
-            pub fn rows_of_any_size(three: &mut [[u8; 3]], hundred: &mut [[u8; 100]], width: usize) {
+            pub fn rows_of_any_size(three: &mut [[u8; 3]], hundred: &mut [[u8; 100]], long: &mut [[u8; 1024]], width: usize) {
                 reverse_slice_row_index_bits(three, width);
                 reverse_slice_row_index_bits(hundred, width);
+                // Such an item is a row of bytes.
+                reverse_slice_index_bits(long);
             }
 
             pub fn integers(a: usize, b: usize) -> [Option<usize>; 7] {

@@ -333,6 +333,10 @@ fn lists_up_to_one_part() {
     );
     assert_eq!([count(1 << 12, 1, Some(5)), count(1 << 12, 1, None)], [10, 1]);
     assert_eq!([count(3 << 9, 3, Some(5)), count(3 << 9, 3, None)], [20, 1]);
+    // Four times this number does not fit.
+    let many = usize::MAX / 4 + 2;
+    assert_eq!([1, 2, 5, 26].map(parts_of_side), [1, 3, 5, 11]);
+    assert_eq!(parts_of_side(many), parts_of_side(usize::MAX));
     let are_cut = [1 << 16, 1 << 17].map(|len| row_reversal(&mut std::vec![0u8; len], 4, 5).len() > 1);
     assert_eq!(are_cut, [false, cfg!(not(feature = "checked"))]);
 }

@@ -1,5 +1,6 @@
 //! Tests of transposes by cache lines, in two parts and more. In these tests a list of 1024 bytes is long enough for that.
 
+use core::cell::Cell;
 use std::boxed::Box;
 use std::fmt::Debug;
 use std::vec::Vec;
@@ -152,7 +153,7 @@ fn lines_at_all_offsets() {
         let len = width * height;
         SliceItems::new(&mut list.0[before..before + len]).past_caches(|cells| {
             let matrix = Matrix::new(SliceSource::new(&source[..len]), width, height);
-            let put = Lines::new(16, before).put(Streamed { cells, lines: 0 }, matrix, matrix.whole());
+            let put = cells.lines().put(Streamed { cells, lines: 0 }, matrix, matrix.whole());
             let within = |x: usize| {
                 let first = before + x * height;
                 ((first + height) / 16).saturating_sub(first.div_ceil(16))
@@ -163,5 +164,82 @@ fn lines_at_all_offsets() {
                 "{height} rows from {before} on"
             );
         });
+    }
+}
+
+/// Notes where each block begins, by its row and its column, and puts nothing.
+struct Noted {
+    height: usize,
+    len: usize,
+    blocks: Vec<(usize, usize)>,
+}
+
+impl Cells for Noted {
+    type Item = ();
+
+    fn len(&self) -> usize {
+        self.len
+    }
+
+    fn put(&mut self, _: usize, (): ()) {}
+
+    fn put_block<R: Source<Item = ()>>(&mut self, _: &R, block: Block) {
+        self.blocks.push((block.to % self.height, block.to / self.height));
+    }
+}
+
+/// A source that counts hints.
+#[derive(Clone, Copy)]
+struct Hinted<'a> {
+    len: usize,
+    hints: &'a Cell<usize>,
+}
+
+impl Source for Hinted<'_> {
+    type Item = ();
+
+    fn len(&self) -> usize {
+        self.len
+    }
+
+    fn at(&self, _: usize) {}
+
+    fn expect(&self, _: usize) {
+        self.hints.set(self.hints.get() + 1);
+    }
+}
+
+/// A matrix is put panel after panel, of 1024 columns each, and by rows of lines. Of a matrix of fewer than 512 columns, or whose
+/// columns begin at other places of a line, the next line of the input is asked for once in each column.
+#[test]
+fn panels_and_hints() {
+    for (width, height, skew) in [
+        (48, 64, 0),
+        (496, 48, 0),
+        (512, 48, 0),
+        (1040, 32, 0),
+        (2064, 48, 0),
+        (24, 72, 8),
+    ] {
+        let (hints, len) = (Cell::new(0), width * height);
+        let matrix = Matrix::new(Hinted { len, hints: &hints }, width, height);
+        let blank = Noted {
+            height,
+            len,
+            blocks: Vec::new(),
+        };
+        let put = Lines::new(16, 0).put(blank, matrix, matrix.whole());
+        if skew > 0 {
+            assert!(hints.get() >= width, "{width} by {height}");
+            continue;
+        }
+        let panels = (0..width).step_by(1024).flat_map(|left| {
+            let blocks = move |row| (left..width.min(left + 1024)).step_by(16).map(move |col| (row, col));
+            (0..height).step_by(16).flat_map(blocks)
+        });
+        assert!(put.blocks.into_iter().eq(panels), "{width} by {height}");
+        let is_asked = |left: &usize| width - left < 512;
+        let asked: usize = (0..width).step_by(1024).filter(is_asked).map(|left| width - left).sum();
+        assert_eq!(hints.get(), asked * (height / 16 - 1), "{width} by {height}");
     }
 }
