@@ -168,6 +168,7 @@ fn check_parts<T: Copy + Default>() {
 }
 
 #[test]
+#[cfg_attr(miri, ignore = "too long")]
 fn choices_are_used() {
     macro_rules! of {
         ($($bytes:literal)*) => { $(
