@@ -299,13 +299,15 @@ impl<T: Copy, D: squares::Register<T>, const STREAM: bool> Cells for SliceItems<
         let Block { rows, cols, from, .. } = block;
         // Whether the list has `D::SIDE` items of each row, from the block's first column on.
         let inside = |len| cols == rows || cols == 1 && from + (rows - 1) * block.width + D::SIDE <= len;
+        let is_square = cols == rows && rows == const { side_of(size_of::<T>()) };
         // These items are only read: the functions of `squares` have a shared reference to them.
         let items_of = |items: &[T]| SliceItems::<T, D>::of(items.as_ptr().cast_mut(), items.len());
         match source.as_slice().map(items_of) {
             Some(items) if STREAM && self.may_stream(block) && inside(items.len) => {
                 squares::line_blocks::put_by_lines::<T, D, _, _>(self, &items, block);
             }
-            Some(items) if const { D::SIDE > 1 } && cols == rows && rows == const { side_of(size_of::<T>()) } => {
+            // A block of lines is no square. In debug, the code of both would need room on the stack.
+            Some(items) if const { D::SIDE > 1 && !STREAM } && is_square => {
                 self.expect_columns(block);
                 squares::put_by_squares::<T, D, _, _>(self, &items, block);
             }
