@@ -236,8 +236,8 @@ fn leaves<T: Debug + PartialEq, H: for<'a> Hold<'a, T>>(
     }
 }
 
-/// Exchanges and transposes tiles, and transposes squares of the items that `item` makes.
-fn turns_of<T: Debug + PartialEq, H: for<'a> Hold<'a, T>>(item: impl Fn(usize) -> T) {
+/// Exchanges and transposes tiles of the items that `item` makes.
+fn turns_of_tiles<T: Debug + PartialEq, H: for<'a> Hold<'a, T>>(item: impl Fn(usize) -> T) {
     // Row `number` of the 16 rows begins at `gap * number` places and 8 for each earlier row. They lie in a mixed order.
     for gap in 0..3 {
         let start = |number: usize| (number * 7 % 16) * (8 + gap) + gap;
@@ -277,6 +277,10 @@ fn turns_of<T: Debug + PartialEq, H: for<'a> Hold<'a, T>>(item: impl Fn(usize) -
             |place| place,
         );
     }
+}
+
+/// Transposes squares of the items that `item` makes.
+fn turns_of_squares<T: Debug + PartialEq, H: for<'a> Hold<'a, T>>(item: impl Fn(usize) -> T) {
     for (log_size, log_stride) in (0..=6).flat_map(|size| (size..=7).map(move |stride| (size, stride))) {
         let (base, size, stride) = (log_size + log_stride, 1 << log_size, 1 << log_stride);
         leaves::<T, H>(
@@ -292,7 +296,10 @@ fn turns_of<T: Debug + PartialEq, H: for<'a> Hold<'a, T>>(item: impl Fn(usize) -
 }
 
 fn turns<T: Debug + PartialEq + 'static>(item: impl Fn(usize) -> T) {
-    of_each_holder!(T, Holder => turns_of::<T, Holder>(&item));
+    of_each_holder!(T, Holder => {
+        turns_of_tiles::<T, Holder>(&item);
+        turns_of_squares::<T, Holder>(&item);
+    });
 }
 
 #[cfg(any(debug_assertions, feature = "checked"))]

@@ -202,6 +202,12 @@ fn lines_of_users() {
         assert_eq!([0, size, 4096].map(of_part), [wanted; 3], "{size} {sides:?} {part:?}");
         assert_eq!([1, size / 2, size + 1].map(of_part), [Choice::Leaves; 3]);
     }
+}
+
+/// A whole call that is not too long goes by strips.
+#[test]
+fn calls_of_users() {
+    let lines = if HAS_LINES { Choice::Lines } else { Choice::Leaves };
     let of_call = |size, sides| choice_of(OF_USERS, size, sides, None, 0);
     assert_eq!(
         [of_call(16, [1024, 1024]), of_call(16, [1024, 1025])],

@@ -141,13 +141,7 @@ where
         Some(number) if number < 8 => (row(8 + k), number),
         number => (row(k), number.unwrap() - 8),
     });
-    // In a list that does not fit in a cache, tiles are fetched early. That may read no place, since these cannot be read.
-    let mut far = Runs::<N>::new(1 + (1_usize << 23).div_ceil(GAP * N), 1, ends_with_page);
-    let list = far.list();
-    let outside = [1, list.len(), list.len() - GAP / 2, usize::MAX / N - 7];
-    for first in outside {
-        H::hold(list).expect_tiles(from_fn(|row| first + row), from_fn(|row| first.wrapping_sub(row)));
-    }
+    hints_of_tiles::<N, H>(ends_with_page);
 
     let mut tile = Runs::<N>::new(8, 8, ends_with_page);
     H::hold(tile.list()).turn_tile(from_fn(|r| GAP * r));
@@ -171,6 +165,16 @@ where
     }
     if let 4 | 8 | 16 = N {
         columns_off_a_line::<N>(ends_with_page, put_block::<_, H>);
+    }
+}
+
+/// In a list that does not fit in a cache, tiles are fetched early. That may read no place, since these cannot be read.
+fn hints_of_tiles<const N: usize, H: for<'a> Hold<'a, [u8; N]>>(ends_with_page: bool) {
+    let mut far = Runs::<N>::new(1 + (1_usize << 23).div_ceil(GAP * N), 1, ends_with_page);
+    let list = far.list();
+    let outside = [1, list.len(), list.len() - GAP / 2, usize::MAX / N - 7];
+    for first in outside {
+        H::hold(list).expect_tiles(from_fn(|row| first + row), from_fn(|row| first.wrapping_sub(row)));
     }
 }
 
