@@ -112,11 +112,7 @@ pub fn redefine(table: &mut LinearMap<u32, u64>, symbol: u32, offset: u64) -> bo
 
 /// The same for keys of any type.
 #[tactic(auto, using(p3_util::proofs::Callers::put_found, p3_util::proofs::Callers::put_others))]
-pub fn redefine_key<K: Eq + Copy, V: Copy>(
-    table: &mut LinearMap<K, V>,
-    key: &K,
-    value: V,
-) -> bool
+pub fn redefine_key<K: Eq + Copy, V: Copy>(table: &mut LinearMap<K, V>, key: &K, value: V) -> bool
     ensures known { IsTrue result ↔ IsSome (value_at K.eq table.old key.now) }
     ensures found { IsTrue result → value_at K.eq table.new key.now ≡ Some value }
     ensures others { (other : K) → K.eq key.now other ≡ false
