@@ -6,12 +6,30 @@ use std::num::NonZero;
 use std::rc::Rc;
 use std::sync::atomic::{AtomicUsize, Ordering::Relaxed};
 
-use p3_util_proved::parts::{self, ReversalPart, TransposePart, row_reversal};
+#[cfg(target_pointer_width = "64")]
+use p3_util_proved::parts;
 use p3_util_proved::transpose::transpose;
 use p3_util_proved::{reverse_slice_index_bits, reverse_slice_row_index_bits};
 
 use crate::common::{Owner, reversed, transposed};
 use crate::refusal::panics;
+
+/// Reverses rows in parts. A system of 32 bits has no parts, and there this is the call.
+fn reverse_in_parts<F: Send + Sync>(list: &mut [F], width: usize) {
+    #[cfg(target_pointer_width = "64")]
+    parts::row_reversal(list, width, 2).for_each(|part| part.run());
+    #[cfg(target_pointer_width = "32")]
+    reverse_slice_row_index_bits(list, width);
+}
+
+/// Transposes a matrix in so many parts, and with 0 or on a system of 32 bits by the call.
+fn transpose_in<T: Copy + Send + Sync>(parts: usize, input: &[T], output: &mut [T], width: usize, height: usize) {
+    match parts {
+        #[cfg(target_pointer_width = "64")]
+        1.. => parts::transpose(input, output, width, height, parts).for_each(|part| part.run()),
+        _ => transpose(input, output, width, height),
+    }
+}
 
 /// Reverses 2^`bits` rows of `width` of the items that `item` makes, and reverses them back in parts. Then each item is dropped,
 /// which it would be twice or never if it was at two places or at none.
@@ -25,7 +43,7 @@ fn reverses<F: Debug + PartialEq + Send + Sync>(item: impl Fn(usize) -> F, bits:
         let wanted = item(reversed(bits, i / width) * width + i % width);
         assert_eq!(*got, wanted, "place {i} of 2^{bits} rows of {width}");
     }
-    row_reversal(&mut list, width, 2).for_each(ReversalPart::run);
+    reverse_in_parts(&mut list, width);
     for (i, got) in list.iter().enumerate() {
         assert_eq!(*got, item(i), "place {i} of 2^{bits} rows of {width} in parts");
     }
@@ -65,10 +83,7 @@ fn serves<T: Copy + Debug + PartialEq + Send + Sync>(item: impl Fn(usize) -> T) 
     {
         let input: Vec<T> = (0..width * height).map(&item).collect();
         let mut output = vec![item(0); input.len()];
-        match parts {
-            0 => transpose(&input, &mut output, width, height),
-            _ => parts::transpose(&input, &mut output, width, height, parts).for_each(TransposePart::run),
-        }
+        transpose_in(parts, &input, &mut output, width, height);
         for (i, got) in output.iter().enumerate() {
             let wanted = item(transposed(width, height, i));
             assert_eq!(*got, wanted, "place {i} of {width} by {height} in {parts} parts");
