@@ -1,5 +1,5 @@
 #!/usr/bin/env bash
-# Runs the first of README's two commands, and compares its output with the comment after it. If `rt ci` has built the
+# Runs the first of README's two commands, and compares its output with the end of its line. If `rt ci` has built the
 # program, it is not proved and built again. Then proves the examples of docs/CALLING.md as a reader pastes them. A block
 # of Rust that has `use` lines becomes a module of a crate that depends only on p3_util. The first line of a block of antt
 # says which file of proofs/ it is, in a crate app: the block of Rust before it is the lib.rt of that crate. They are proved
@@ -11,7 +11,7 @@ line=$(grep -m 1 '^(cd crates/' README.md)
 command=${line%%   #*}
 [ ! -x crates/p3_util_run/out/p3_util_run ] || command=${command/rt run --/out/p3_util_run}
 printed=$(bash -c "$command")
-[ "$printed" = "${line##*# }" ] || { printf 'FAILED  %s\nprints %s\n' "$line" "$printed" >&2 && exit 1; }
+[ "$printed" = "${line##* }" ] || { printf 'FAILED  %s\nprints %s\n' "$line" "$printed" >&2 && exit 1; }
 echo "README's first command prints $printed"
 
 room=$(mktemp -d)
