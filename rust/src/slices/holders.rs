@@ -87,15 +87,17 @@ impl<'a, T, D, const STREAM: bool> SliceItems<'a, T, D, STREAM> {
         if size < 4 || cfg!(debug_assertions) {
             return;
         }
-        let expect = |col: usize| {
-            let next = square.to + col * square.height + LINE / size;
-            cache::prefetch(self.first.wrapping_add(next).cast());
-        };
-        // With `opt-level = "s"`, a loop would not be unrolled.
-        expect(0);
-        expect(1);
-        expect(2);
-        expect(3);
+        // With `opt-level = "s"` a loop would not be unrolled, and with "z" a closure would not be inlined.
+        let (next, height) = (square.to + LINE / size, square.height);
+        self.prefetch(next);
+        self.prefetch(next + height);
+        self.prefetch(next + 2 * height);
+        self.prefetch(next + 3 * height);
+    }
+
+    #[inline(always)]
+    fn prefetch(&self, place: usize) {
+        cache::prefetch(self.first.wrapping_add(place).cast());
     }
 
     /// Runs a kernel that puts a call or a part by lines. Only this function makes a holder that stores past the caches.
