@@ -333,14 +333,14 @@ impl<T: Copy, D: squares::Register<T>, const STREAM: bool> Cells for SliceItems<
 impl<T, E, D: squares::Register<T>, const STREAM: bool> Runs<T, D> for SliceItems<'_, T, E, STREAM> {
     #[inline(always)]
     fn load(&self, place: usize) -> D::Half {
-        debug_assert!(place + size_of::<D::Half>() / size_of::<T>() <= self.len);
+        debug_assert!(place <= self.len && size_of::<D::Half>() / size_of::<T>() <= self.len - place);
         // SAFETY: the run `may` be read, by the `requires` of `Runs::load`.
         unsafe { (*self.first.wrapping_add(place).cast::<Unaligned<D::Half>>()).0 }
     }
 
     #[inline(always)]
     fn store(&mut self, place: usize, run: D::Half) {
-        debug_assert!(place + size_of::<D::Half>() / size_of::<T>() <= self.len);
+        debug_assert!(place <= self.len && size_of::<D::Half>() / size_of::<T>() <= self.len - place);
         // SAFETY: the run `may` be written, by the `requires` of `Runs::store`.
         unsafe { *self.first.wrapping_add(place).cast() = Unaligned(run) }
     }
@@ -350,7 +350,7 @@ impl<T, E, D: squares::Register<T>, const STREAM: bool> Runs<T, D> for SliceItem
     #[cfg(all(target_arch = "x86_64", target_feature = "sse2", not(ordinary_stores)))]
     #[inline(always)]
     fn stream(&mut self, place: usize, run: D::Half) {
-        debug_assert!(place + 16 / size_of::<T>() <= self.len && size_of::<D::Half>() == 16);
+        debug_assert!(place <= self.len && 16 / size_of::<T>() <= self.len - place && size_of::<D::Half>() == 16);
         debug_assert!(self.first.wrapping_add(place).addr() % 16 == 0);
         let to = self.first.wrapping_add(place);
         // SAFETY: a run is a register here. The holder `may_stream` it, by the `requires` of `Runs::stream`: the method

@@ -167,7 +167,7 @@ macro_rules! of_each_holder {
         }
     };
 }
-#[cfg(not(feature = "checked"))]
+#[cfg(all(target_os = "linux", not(feature = "checked")))]
 pub(super) use of_each_holder;
 
 /// The result of a call on the numbers below 6, each as an item of five bytes. For items of this size, std tests that
