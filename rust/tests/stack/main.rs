@@ -70,6 +70,7 @@ fn check_transposes<const SIZE: usize>(more: &[(usize, usize)]) {
 }
 
 #[test]
+#[cfg_attr(target_family = "wasm", ignore = "no thread starts there")]
 fn transposes_of_large_items() {
     check_transposes::<{ 1 << 10 }>(&[]);
     check_transposes::<{ 1 << 16 }>(&[]);
@@ -77,6 +78,7 @@ fn transposes_of_large_items() {
 
 /// The last of the lists of 4, 8 and 16 bytes has 16 MiB, and is put past the caches.
 #[test]
+#[cfg_attr(target_family = "wasm", ignore = "no thread starts there")]
 fn transposes_of_small_items() {
     let more = [(64, 64), (100, 130), (300, 180)];
     check_transposes::<1>(&more);
@@ -131,6 +133,7 @@ mod reversals {
     }
 
     #[test]
+    #[cfg_attr(target_family = "wasm", ignore = "no thread starts there")]
     fn reversals_of_large_items() {
         #[cfg(debug_assertions)]
         {
@@ -143,6 +146,7 @@ mod reversals {
 
     /// Parts are cut from 2^17 items on.
     #[test]
+    #[cfg_attr(target_family = "wasm", ignore = "no thread starts there")]
     fn reversals_and_rows_of_small_items() {
         macro_rules! check {
             ($($bytes:literal)*) => { $(
@@ -154,6 +158,7 @@ mod reversals {
     }
 
     #[test]
+    #[cfg_attr(target_family = "wasm", ignore = "no thread starts there")]
     fn rows_of_large_items() {
         #[cfg(debug_assertions)]
         {
