@@ -28,7 +28,8 @@ const fn item_size<T>() -> usize {
 }
 
 /// Reverses items by index bits. Their number is zero or a power of two.
-#[inline(never)]
+#[cfg_attr(target_pointer_width = "64", inline(never))]
+#[cfg_attr(target_pointer_width = "32", inline)]
 pub(super) fn reverse(items: impl Places) {
     let _ = reverse_short(items);
 }
