@@ -6,5 +6,6 @@ pub use p3_util_callers::joined::Joined;
 
 pub mod elements;
 pub mod keys;
+pub mod noted;
 #[cfg(test)]
 mod tests;

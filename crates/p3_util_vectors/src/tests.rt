@@ -1,4 +1,4 @@
-//! Worked examples, and the original's answers, each compared with values from
+//! Worked examples, orders of steps, and the original's answers, each compared with values from
 //! elsewhere. A test is here if it is small and shows what a call means. Properties that no clause
 //! states are tested without a proof: by the package, and in `tests/unproved`.
 
@@ -10,6 +10,7 @@ mod chunks;
 mod items;
 mod linear_map;
 mod oracle;
+mod orders;
 mod reversals;
 mod reverse;
 mod shapes;
