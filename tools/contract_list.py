@@ -31,7 +31,7 @@ HEAD = """\
 # Your crate can import the same names, by `ghost use`.
 #
 # Written by: python3 tools/contract_list.py"""
-CRATES = ["p3_util_kernels", "p3_util_registers", "p3_util_parts", "p3_util", "p3_util_run", "p3_util_c"]
+CRATES = ["p3_util_kernels", "p3_util_registers", "p3_util_parts", "p3_util_calls", "p3_util", "p3_util_run", "p3_util_c"]
 # No code may rely on these: examples and tests.
 EXAMPLES = {"p3_util_callers", "p3_util_transform", "p3_util_vectors"}
 # In the sources of these crates, what only the crate itself sees is listed too.

@@ -3,8 +3,8 @@
 //!
 //! It is proved that a kernel whose own precondition holds meets the preconditions of the steps of every holder. So
 //! `holders.rs` and its folder, which have all the unsafe code, check no index. With the feature `checked`, the holders of
-//! `checked.rs` are used instead, which check each one. `choice.rs` chooses how a matrix is put: each choice is right
-//! for every matrix. `by_size.rs` and `by_type.rs` choose the instance of a kernel.
+//! `checked.rs` are used instead, which check each one. Proved code chooses how a matrix is put, in `kernels/calls.rs`.
+//! `by_size.rs` and `by_type.rs` choose the instance of a kernel.
 //!
 //! On a system of 32 bits, `narrow.rs` has the holders: those of the kernels, which check each index too.
 
@@ -13,11 +13,9 @@ use crate::kernels::transpose::fits_matrix;
 use crate::width::Index;
 use holders::{SliceItems, SliceSource, WholeList};
 
-mod by_index;
 #[cfg(not(any(feature = "checked", target_pointer_width = "32")))]
 mod by_size;
 mod by_type;
-mod choice;
 #[cfg_attr(target_pointer_width = "32", path = "slices/narrow.rs")]
 #[cfg_attr(all(feature = "checked", target_pointer_width = "64"), path = "slices/checked.rs")]
 #[cfg_attr(not(feature = "checked"), allow(unsafe_code))]

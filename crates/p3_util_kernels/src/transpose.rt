@@ -27,7 +27,7 @@ ghost use Rattle.p3_util_kernels.specs.Transpose.{IsTranspose};
 // kernel uses `butterfly`.
 mod butterfly;
 mod counted;
-mod order;
+pub(crate) mod order;
 pub(crate) mod regions;
 mod split;
 mod square;
@@ -42,12 +42,12 @@ pub use counted::{
     transpose_source_region_on, transpose_source_split_on, transpose_split_on,
     transpose_square_counted, transpose_square_on,
 };
-pub(crate) use order::{LARGE_MATRIX, Order, TINY_MATRIX};
+pub(crate) use order::{Order, TINY_MATRIX};
 pub(crate) use regions::Matrix;
 pub use regions::Region;
 pub(crate) use square::transpose_square;
-pub(crate) use strips::{HIGH_ROWS, Strips};
-pub(crate) use ways::{Blocks, Columns, PutRegion, RowBlocks, put_as_block};
+pub(crate) use strips::Strips;
+pub(crate) use ways::{Columns, PutRegion};
 
 /// How many levels of splits a transpose is given. No matrix needs as many.
 const ENOUGH_LEVELS: u32 = 64;

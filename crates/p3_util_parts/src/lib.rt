@@ -2,4 +2,5 @@
 //! Rust does.
 #![tactic(auto)]
 
-pub(crate) mod parts;
+#[doc(hidden)]
+pub mod parts;

@@ -17,14 +17,19 @@ ghost use Rattle.p3_util_parts.specs.Parts.{FollowEachOther, IsLeastPartLen, num
 ghost use Rattle.p3_util_kernels.specs.Reversal.{FitsRows};
 
 mod laws;
+mod numbers;
 mod reversal;
 mod transpose;
 
+#[doc(hidden)]
+pub use numbers::{Part, PartsLeft, Plan};
 use p3_util_kernels::kernel::{RowDigits, TILE, exchange_quadrants, exchange_region, pow2};
 use p3_util_kernels::places::Places;
 use p3_util_kernels::transpose::Region;
-pub(crate) use reversal::ReversalPlan;
-pub(crate) use transpose::TransposePlan;
+#[doc(hidden)]
+pub use reversal::ReversalPlan;
+#[doc(hidden)]
+pub use transpose::TransposePlan;
 
 /// The numbers below `len`, cut into parts of `part_len` consecutive numbers. The last part may
 /// have fewer.
@@ -102,7 +107,8 @@ impl Cut {
 /// [`RowDigits::grid`] gives, and its mirror image. The sides of the grids are cut by `cut`, which
 /// divides the grids into patches.
 #[derive(Clone, Copy)]
-pub(crate) struct RowPairs {
+#[doc(hidden)]
+pub struct RowPairs {
     rows: RowDigits,
     cut: Cut,
     pub ghost digits: { rows.digits < 64 },
@@ -131,7 +137,7 @@ impl RowPairs {
     }
 
     /// The number of patches that are on the diagonal of their grid or above it.
-    pub(crate) fn count(self) -> usize
+    fn patches(self) -> usize
         ensures { result ≡ patches_of self.rows.digits self.cut.part_len }
     {
         self.cut.pairs() * pow2(self.rows.digits % 2)

@@ -2,5 +2,6 @@
 //! uses them: the package of plain Rust does.
 #![tactic(auto)]
 
-pub(crate) mod lines;
+#[doc(hidden)]
+pub mod lines;
 pub(crate) mod registers;

@@ -25,7 +25,8 @@ const MOST_ROWS: usize = 1 << 62;
 
 /// The cache lines of an output.
 #[derive(Clone, Copy, PartialEq, Eq)]
-pub(crate) struct Lines {
+#[doc(hidden)]
+pub struct Lines {
     /// The number of cells of a line, a power of two.
     cells: usize,
     /// The first cell of the output is the one after so many others of its line.
@@ -38,7 +39,8 @@ impl Lines {
     /// Lines of `cells` cells. The first cell of the output is the one after `before` others of its
     /// line.
     #[inline(always)]
-    pub(crate) fn new(cells: usize, before: usize) -> Lines
+    #[doc(hidden)]
+    pub fn new(cells: usize, before: usize) -> Lines
         requires some_cells { 0 < cells }
         requires few_cells { cells < 2 ^ 32 }
         ensures cells { result.cells ≡ cells }

@@ -35,6 +35,7 @@ ghost use Rattle.p3_util_kernels.specs.BlockPut.{BlockFits, IsBlockPut, block_it
 ghost use Rattle.p3_util_registers.specs.Registers.{AreDisjoint, AreColumns, AreInterleaved, AreLoaded, AreReached, AreStored, ColumnsPut, IsNextStage, IsSide, IsRunStored, IsStored, RowsExchanged, RowsReached, SquaresTurned, items_of_four};
 ghost use Rattle.p3_util_kernels.specs.Exchanged.{AreTiles, IsTile, TileTurned, TilesExchanged};
 
+pub(crate) mod blocks;
 pub(crate) mod line_blocks;
 mod witness;
 

@@ -1,10 +1,13 @@
 // rust/erase writes this file from crates/p3_util_kernels/src/kernel.rt. Make changes there.
-//! What `p3_util_registers` and `p3_util_parts` use of the private kernels. It is for these two
-//! crates alone, which only the package of plain Rust needs. It may change with each commit.
+//! What `p3_util_registers`, `p3_util_parts` and `p3_util_calls` use of the private kernels. It is for
+//! these crates alone, which only the package of plain Rust needs. It may change with each commit.
 
 pub(crate) use crate::kernels::bits::pow2;
 pub(crate) use crate::kernels::grid::{TILE, exchange_quadrants, exchange_region};
-pub(crate) use crate::kernels::reverse::rows::{RowDigits, reverse_rows};
+pub(crate) use crate::kernels::reverse::rows::{RowDigits, reverse_rows, reverse_short};
+pub(crate) use crate::kernels::transpose::order::{LARGE_MATRIX, Order, TINY_MATRIX};
 pub(crate) use crate::kernels::transpose::regions::Matrix;
-pub(crate) use crate::kernels::transpose::strips::UNIT;
-pub(crate) use crate::kernels::transpose::ways::{Columns, InCols, Outlined, PutRegion, put_as_block};
+pub(crate) use crate::kernels::transpose::strips::{HIGH_ROWS, Strips, UNIT};
+pub(crate) use crate::kernels::transpose::ways::{
+    Blocks, Columns, InCols, InRows, Outlined, PutRegion, RowBlocks, put_as_block,
+};

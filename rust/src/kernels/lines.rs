@@ -6,6 +6,8 @@
 //! of lines begin in different rows of the matrix. The first and the last row of lines have the parts of lines at the ends of
 //! the columns.
 
+#[cfg(target_pointer_width = "32")]
+use crate::width::Index as usize;
 use crate::kernels::kernel::{Columns, InCols, Matrix, Outlined, PutRegion, put_as_block};
 use crate::kernels::places::{Cells, Source};
 use crate::kernels::transpose::Region;

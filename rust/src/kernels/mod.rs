@@ -2,11 +2,14 @@
 #![warn(clippy::default_numeric_fallback)]
 
 pub mod bits;
+pub(crate) mod calls;
+pub(crate) mod choice;
 pub(crate) mod grid;
-#[cfg(target_pointer_width = "64")]
+#[cfg_attr(target_pointer_width = "32", allow(unused_imports))]
 pub(crate) mod kernel;
-#[cfg(target_pointer_width = "64")]
 pub(crate) mod lines;
+#[cfg(target_pointer_width = "64")]
+pub(crate) mod part;
 #[cfg(target_pointer_width = "64")]
 pub(crate) mod parts;
 pub mod places;

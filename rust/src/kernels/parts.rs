@@ -11,9 +11,11 @@
 //! at which places the steps of each part are, that two parts have no place in common, and that all
 //! parts together have the effect of the call, however their steps are interleaved.
 
+mod numbers;
 mod reversal;
 mod transpose;
 
+pub(crate) use numbers::{Part, PartsLeft, Plan};
 use crate::kernels::kernel::{RowDigits, TILE, exchange_quadrants, exchange_region, pow2};
 use crate::kernels::places::Places;
 use crate::kernels::transpose::Region;
@@ -151,7 +153,7 @@ impl RowPairs {
     /// ```text
     /// ensures { result ≡ patches_of self.rows.digits self.cut.part_len }
     /// ```
-    pub(crate) fn count(self) -> usize {
+    fn patches(self) -> usize {
         self.cut.pairs() * pow2(self.rows.digits % 2)
     }
 

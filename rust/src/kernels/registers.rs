@@ -30,6 +30,7 @@
 //! The module `witness`, which only the Rattle sources have, is an example for whoever writes a holder: a
 //! register, and lists that meet [`Runs`].
 
+pub(crate) mod blocks;
 pub(crate) mod line_blocks;
 
 use crate::kernels::places::Block;

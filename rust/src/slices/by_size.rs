@@ -8,12 +8,10 @@
 //! If the processor does not move unaligned bytes as fast as aligned ones, each type has kernels of its own.
 
 use super::by_type;
-use super::choice::LONG_BYTES;
 use super::holders::{Bytes, Items, MOVES_BYTES, SliceItems, SliceSource, USES_REGISTERS, Vector};
-use super::parts::RowPlan;
-use crate::kernels::parts::ReversalPlan;
+use crate::kernels::choice::LONG_BYTES;
+use crate::kernels::parts::{Part, ReversalPlan, TransposePlan};
 use crate::kernels::registers::{Pair, Two};
-use crate::kernels::transpose::{Matrix, Region};
 
 /// `by_size!(size)` is whether the size is in this table. `by_size!(size, holder = list => call, _ => other)` is `call` if
 /// it is, and otherwise `other`. In `call`, `holder` is the holder of the list as items of this size.
@@ -72,11 +70,11 @@ pub(super) fn transpose<T: Copy>(cells: SliceItems<T>, source: SliceSource<T>, w
 }
 
 #[inline(always)]
-pub(super) fn transpose_region<T: Copy>(cells: SliceItems<T>, matrix: Matrix<SliceSource<T>>, region: Option<Region>) {
+pub(super) fn transpose_part<T: Copy>(cells: SliceItems<T>, source: SliceSource<T>, part: Part<TransposePlan>) {
     if const { by_size!(size_of::<T>()) } {
-        transpose_bytes(cells.in_bytes(), in_bytes(matrix), region, size_of::<T>());
+        transpose_part_of_bytes(cells.in_bytes(), source.in_bytes(), part, size_of::<T>());
     } else {
-        by_type::transpose_region(cells, matrix, region);
+        by_type::transpose_part(cells, source, part);
     }
 }
 
@@ -90,18 +88,14 @@ pub(super) fn bytes_of_place(size: usize, row: usize) -> usize {
     }
 }
 
+/// Makes the exchanges of a part, whose places have so many `bytes`.
 #[inline(always)]
-pub(super) fn run_reversal<F>(items: SliceItems<F>, plan: RowPlan, number: usize) {
-    if const { by_size!(size_of::<F>()) } || plan.bytes != size_of::<F>() {
-        run_reversal_of_bytes(items.in_bytes(), plan, number);
+pub(super) fn reverse_part<F>(items: SliceItems<F>, bytes: usize, part: Part<ReversalPlan>) {
+    if const { by_size!(size_of::<F>()) } || bytes != size_of::<F>() {
+        reverse_part_of_bytes(items.in_bytes(), bytes, part);
     } else {
-        by_type::run_reversal(items, plan, number);
+        by_type::reverse_part(items, bytes, part);
     }
-}
-
-#[inline(always)]
-fn in_bytes<T: Copy, const N: usize>(matrix: Matrix<SliceSource<T>>) -> Matrix<SliceSource<Bytes<N>>> {
-    Matrix::new(matrix.source.in_bytes(), matrix.width, matrix.height)
 }
 
 /// A list of items or rows that are taken as bytes.
@@ -117,24 +111,24 @@ fn reverse_rows_of_bytes(list: ByteList, row: usize) {
     );
 }
 
-/// Makes the exchanges of a part. A place has a size in the table.
+/// Makes the exchanges of a part, whose places have so many `bytes`. If it is a patch, this size is in the table.
 #[inline(never)]
-fn run_reversal_of_bytes(list: ByteList, plan: RowPlan, number: usize) {
-    match plan.parts {
-        ReversalPlan::Whole(_, width) => reverse_rows_of_bytes(list, width * plan.bytes),
-        ReversalPlan::Patches(pairs) => by_size!(
-            plan.bytes,
-            holder = list => _ = pairs.exchange_patch(holder, number),
+fn reverse_part_of_bytes(list: ByteList, bytes: usize, part: Part<ReversalPlan>) {
+    match part.patch() {
+        Err(row_width) => reverse_rows_of_bytes(list, row_width * bytes),
+        Ok(patch) => by_size!(
+            bytes,
+            holder = list => _ = patch.exchange(holder),
             _ => unreachable!("these items have kernels of their type")
         ),
     }
 }
 
 #[inline(never)]
-fn transpose_bytes(cells: ByteList, matrix: Matrix<SliceSource<Bytes<1>>>, region: Option<Region>, size: usize) {
+fn transpose_part_of_bytes(cells: ByteList, source: SliceSource<Bytes<1>>, part: Part<TransposePlan>, size: usize) {
     by_size!(
         size,
-        holder = cells => by_type::transpose_region(holder, in_bytes(matrix), region),
+        holder = cells => by_type::transpose_part(holder, source.in_bytes(), part),
         _ => unreachable!("this size has no kernels here")
     );
 }

@@ -3,13 +3,10 @@
 
 use core::mem::take;
 
-use super::by_type::{Input, Output};
+use crate::kernels::calls::Output;
 use crate::kernels::places::{Block, Cells, Places, SliceCells, SlicePlaces, Source};
 // A whole list is no range of another one, so no index has to be moved.
 pub(super) use crate::kernels::places::{SlicePlaces as WholeList, SliceSource};
-
-/// These holders use no vector registers.
-pub(crate) const USES_REGISTERS: bool = false;
 
 /// A range of a list. The range begins at place `before` of the list, and its places have the same indices as in the list.
 pub(super) struct SliceItems<'a, T> {
@@ -46,8 +43,12 @@ impl<'a, T> SliceItems<'a, T> {
 }
 
 impl<T: Copy> Output for SliceItems<'_, T> {
-    fn copy(self, source: impl Input<T>) {
+    const SIZE: usize = size_of::<T>();
+    const IS_INLINED: bool = cfg!(not(debug_assertions));
+
+    fn copy<R: Source<Item = T> + Copy>(self, source: R) -> Self {
         self.items.copy_from_slice(source.as_slice().expect("a whole slice"));
+        self
     }
 }
 

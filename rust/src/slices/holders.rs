@@ -16,10 +16,10 @@ use bytes::{Unaligned, move_bytes, swap_bytes, write_item};
 pub(crate) use registers::USES_REGISTERS;
 pub(super) use registers::{Items, Vector};
 
-use super::by_type::{Input, Output};
-use super::choice::side_of;
-use crate::kernels::lines::Lines;
+use crate::kernels::calls::Output;
+use crate::kernels::choice::Limits;
 use crate::kernels::places::{Block, Cells, Places, Source};
+use crate::kernels::registers::blocks::{RunsOfCells, put_block, put_singly};
 use crate::kernels::registers::{self as squares, Runs, Single, Two};
 use crate::kernels::transpose::{Matrix, PutRegion, Region};
 
@@ -59,52 +59,14 @@ unsafe impl<T: Sync> Sync for SliceItems<'_, T> {}
 impl<'a, T, D, const STREAM: bool> SliceItems<'a, T, D, STREAM> {
     /// The `len` items from `first` on. Whoever uses the holder has borrowed them.
     #[inline(always)]
-    fn of(first: *mut T, len: usize) -> Self {
+    pub(super) fn of(first: *mut T, len: usize) -> Self {
         let slice = PhantomData;
         SliceItems { first, len, slice }
-    }
-
-    /// The cache lines of the output.
-    #[inline(always)]
-    pub(super) fn lines(&self) -> Lines {
-        Lines::new(LINE / size_of::<T>(), self.first.addr() % LINE / size_of::<T>())
-    }
-
-    /// Whether the cells of a block may be streamed: each column is a line of the output, and a fence follows.
-    #[inline(always)]
-    pub(super) fn may_stream(&self, block: Block) -> bool {
-        let first = self.first.wrapping_add(block.to).addr();
-        let distance = block.height * size_of::<T>() * usize::from(block.cols > 1);
-        STREAM && block.rows * size_of::<T>() == LINE && (first | distance) % LINE == 0
-    }
-
-    /// Prefetches the next cache line of each column of a square of 4 by 4. The processor makes its stores in order, so a store
-    /// that waits for its cache line delays all stores after it. The places may be outside. No reference is made to them.
-    #[inline(always)]
-    pub(super) fn expect_columns(&self, square: Block) {
-        let size = size_of::<T>();
-        // The stores of shorter items are too small and too many: in a cache, the hints would take longer.
-        if size < 4 || cfg!(debug_assertions) {
-            return;
-        }
-        // With `opt-level = "s"` a loop would not be unrolled, and with "z" a closure would not be inlined.
-        let (next, height) = (square.to + LINE / size, square.height);
-        self.prefetch(next);
-        self.prefetch(next + height);
-        self.prefetch(next + 2 * height);
-        self.prefetch(next + 3 * height);
     }
 
     #[inline(always)]
     fn prefetch(&self, place: usize) {
         cache::prefetch(self.first.wrapping_add(place).cast());
-    }
-
-    /// Runs a kernel that puts a call or a part by lines. Only this function makes a holder that stores past the caches.
-    #[inline(always)]
-    pub(super) fn past_caches(self, kernel: impl FnOnce(SliceItems<'a, T, D, true>)) {
-        kernel(SliceItems::of(self.first, self.len));
-        cache::fence();
     }
 }
 
@@ -141,23 +103,47 @@ impl<'a, T> SliceItems<'a, T> {
 }
 
 impl<T: Copy, D: squares::Register<T>> Output for SliceItems<'_, T, D> {
+    const SIZE: usize = size_of::<T>();
+    const IS_INLINED: bool = cfg!(not(debug_assertions));
+    const TESTS_INDICES: bool = false;
+    const HAS_REGISTERS: bool = USES_REGISTERS;
+    const IS_X86_64: bool = cfg!(target_arch = "x86_64");
+
+    fn limits() -> Limits {
+        let (list, row, column) = (1 << 10, 1, 1);
+        // In most tests, short lists are put by lines too.
+        if cfg!(test) {
+            Limits { list, row, column }
+        } else {
+            Limits::of_users()
+        }
+    }
+
     fn address(&self) -> usize {
         self.first.addr()
     }
 
     #[inline]
-    fn copy(self, source: impl Input<T>) {
+    fn copy<R: Source<Item = T> + Copy>(self, source: R) -> Self {
         let items = source.as_slice().expect("a whole slice");
         debug_assert!(self.len == items.len());
         // SAFETY: both lists have this length, and the source is borrowed as long as it is read.
         unsafe { ptr::copy_nonoverlapping(items.as_ptr(), self.first, items.len()) }
+        self
     }
 
-    #[inline(never)]
-    fn put_by_lines(self, matrix: Matrix<impl Input<T>>, region: Region) {
-        if const { matches!(size_of::<T>(), 4 | 8 | 16) } {
-            self.past_caches(|cells| _ = cells.lines().put(cells, matrix, region));
-        }
+    /// Only this function makes a holder that stores past the caches.
+    #[inline(always)]
+    fn put_past_caches<W: PutRegion, R: Source<Item = T> + Copy>(
+        self,
+        way: W,
+        matrix: Matrix<R>,
+        region: Region,
+    ) -> Self {
+        let SliceItems { first, len, .. } = self;
+        let _ = way.put(SliceItems::<T, D, true>::of(first, len), matrix, region);
+        cache::fence();
+        SliceItems::of(first, len)
     }
 }
 
@@ -298,29 +284,48 @@ impl<T: Copy, D: squares::Register<T>, const STREAM: bool> Cells for SliceItems<
     #[cfg_attr(debug_assertions, inline(never))]
     #[cfg_attr(not(debug_assertions), inline(always))]
     fn put_block<R: Source<Item = T>>(&mut self, source: &R, block: Block) {
-        let Block { rows, cols, from, .. } = block;
-        // Whether the list has `D::SIDE` items of each row, from the block's first column on.
-        let inside = |len| cols == rows || cols == 1 && from + (rows - 1) * block.width + D::SIDE <= len;
-        let is_square = cols == rows && rows == const { side_of(size_of::<T>()) };
-        // These items are only read: the functions of `squares` have a shared reference to them.
-        let items_of = |items: &[T]| SliceItems::<T, D>::of(items.as_ptr().cast_mut(), items.len());
-        match source.as_slice().map(items_of) {
-            Some(items) if STREAM && self.may_stream(block) && inside(items.len) => {
-                squares::line_blocks::put_by_lines::<T, D, _, _>(self, &items, block);
-            }
-            // A block of lines is no square. In debug, the code of both would need room on the stack.
-            Some(items) if const { D::SIDE > 1 && !STREAM } && is_square => {
-                self.expect_columns(block);
-                squares::put_by_squares::<T, D, _, _>(self, &items, block);
-            }
-            _ => {
-                for c in 0..cols {
-                    for r in 0..rows {
-                        self.put(block.to + c * block.height + r, source.at(from + r * block.width + c));
-                    }
-                }
-            }
+        let Some(items) = source.as_slice() else {
+            return put_singly(self, source, block);
+        };
+        // These items are only read: proved code has a shared reference to them.
+        let items = SliceItems::<T, D>::of(items.as_ptr().cast_mut(), items.len());
+        put_block(self, &items, source, block);
+    }
+}
+
+impl<T: Copy, D: squares::Register<T>, const STREAM: bool> RunsOfCells<T, D> for SliceItems<'_, T, D, STREAM> {
+    const STREAMS: bool = STREAM;
+    const SQUARE: usize = if D::SIDE > 1 && !STREAM {
+        SliceItems::<T, D>::SIDE
+    } else {
+        1
+    };
+
+    /// Each column of the block has to be a line of the output. A fence follows.
+    #[inline(always)]
+    fn may_stream_lines(&self, block: Block) -> bool {
+        let first = self.first.wrapping_add(block.to).addr();
+        let distance = block.height * size_of::<T>() * usize::from(block.cols > 1);
+        let size = size_of::<T>().max(1);
+        let is_line = LINE % size == 0 && block.rows == LINE / size;
+        STREAM && is_line && (first | distance) % LINE == 0
+    }
+
+    /// Prefetches the next cache line of each column of a square of 4 by 4. The processor makes its stores in order, so a store
+    /// that waits for its cache line delays all stores after it. The places may be outside. No reference is made to them.
+    #[inline(always)]
+    fn expect_columns(&self, square: Block) {
+        let size = size_of::<T>();
+        // The stores of shorter items are too small and too many: in a cache, the hints would take longer.
+        if size < 4 || cfg!(debug_assertions) {
+            return;
         }
+        // With `opt-level = "s"` a loop would not be unrolled, and with "z" a closure would not be inlined.
+        let (next, height) = (square.to + LINE / size, square.height);
+        self.prefetch(next);
+        self.prefetch(next + height);
+        self.prefetch(next + 2 * height);
+        self.prefetch(next + 3 * height);
     }
 }
 

@@ -1,14 +1,17 @@
 //! The holders of slices on a system of 32 bits: those of the kernels, which check each index. The feature `checked` changes
 //! nothing there.
 
-use super::by_type::{Input, Output};
+use crate::kernels::calls::Output;
+use crate::kernels::places::Source;
 pub(super) use crate::kernels::places::{SliceCells as SliceItems, SlicePlaces as WholeList, SliceSource};
-
-/// These holders use no vector registers.
-pub(crate) const USES_REGISTERS: bool = false;
+use crate::width::Index;
 
 impl<T: Copy> Output for SliceItems<'_, T> {
-    fn copy(self, source: impl Input<T>) {
+    const SIZE: Index = size_of::<T>() as Index;
+    const IS_INLINED: bool = cfg!(not(debug_assertions));
+
+    fn copy<R: Source<Item = T> + Copy>(self, source: R) -> Self {
         self.values.copy_from_slice(source.as_slice().unwrap_or_default());
+        self
     }
 }

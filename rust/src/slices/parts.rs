@@ -23,12 +23,11 @@
 //! proved and what is reviewed, and [`kernels::contracts::parts`](crate::kernels::contracts::parts) has the contracts.
 use core::fmt;
 use core::iter::FusedIterator;
-use core::ops::Range;
 
 use super::{SliceItems, SliceSource, instances};
-use crate::kernels::parts::{ReversalPlan, TransposePlan};
+use crate::kernels::parts::{Part, PartsLeft, Plan, ReversalPlan, TransposePlan};
 use crate::kernels::reverse::fits_rows;
-use crate::kernels::transpose::{Matrix, Region, fits_matrix};
+use crate::kernels::transpose::fits_matrix;
 
 /// A list of more items is cut, whatever the size of its items.
 const ONE_PART_ITEMS: usize = 1 << 16;
@@ -60,19 +59,19 @@ pub const fn one_part_reversal<F>() -> usize {
 
 /// The remaining parts of a transpose, as an iterator of known length.
 #[must_use = "a part that is not run leaves its cells as they are"]
-pub struct TransposeParts<'a, T>(PartsToRun<'a, T, MatrixPlan<'a, T>>);
+pub struct TransposeParts<'a, T>(PartsToRun<'a, T, TransposePlan, &'a [T]>);
 
 /// A part of a transpose. It is `Send` if its items are `Send` and `Sync`, and it is `Sync` if they are.
 #[must_use = "a part that is not run leaves its cells as they are"]
-pub struct TransposePart<'a, T>(PartsToRun<'a, T, MatrixPlan<'a, T>>);
+pub struct TransposePart<'a, T>(PartToRun<'a, T, TransposePlan, &'a [T]>);
 
 /// The remaining parts of a reversal, as an iterator of known length.
 #[must_use = "a part that is not run leaves the list neither as it was nor reversed"]
-pub struct ReversalParts<'a, F>(PartsToRun<'a, F, RowPlan>);
+pub struct ReversalParts<'a, F>(PartsToRun<'a, F, ReversalPlan, usize>);
 
 /// A part of a reversal. It is `Send` if its items are, and `Sync` if they are.
 #[must_use = "a part that is not run leaves the list neither as it was nor reversed"]
-pub struct ReversalPart<'a, F>(PartsToRun<'a, F, RowPlan>);
+pub struct ReversalPart<'a, F>(PartToRun<'a, F, ReversalPlan, usize>);
 
 /// Into how many ranges a side is cut at most if the caller asks for `parts` parts. There are about two patches for each such
 /// part, so that threads end at about the same time. More patches would be smaller, and make less use of the caches.
@@ -80,40 +79,34 @@ const fn parts_of_side(parts: usize) -> usize {
     1 + parts.saturating_sub(1).saturating_mul(4).isqrt()
 }
 
-/// The list of a call, and the parts that have these numbers. No other `PartsToRun` of the call has one of these numbers.
+/// The list of a call, and the parts of it that are left. Every part is handed out once, and no two have a place in common:
+/// `kernels/parts.rs` is proved.
 ///
-/// [`transpose`] and [`cut`] set the fields together: `items` is the list that `plan` was made for, and `numbers` are below
-/// the number of its parts. This stays true, since the fields are private and there is no `Clone`.
-struct PartsToRun<'a, T, P> {
+/// [`transpose`] and [`cut`] set the fields together: `items` is the list that the plan was made for. This stays true, since
+/// the fields are private and there is no `Clone`.
+struct PartsToRun<'a, T, P: Plan, I> {
     items: SliceItems<'a, T>,
-    plan: P,
-    numbers: Range<usize>,
+    left: PartsLeft<P>,
+    /// What else a part needs: the input of a transpose, or how many bytes a place of a reversal has.
+    input: I,
 }
 
-type MatrixPlan<'a, T> = (&'a [T], TransposePlan);
-
-/// The plan of a reversal of rows of places of `bytes` bytes each.
-#[derive(Clone, Copy)]
-#[cfg_attr(feature = "checked", allow(dead_code, reason = "there, a place is an item"))]
-pub(super) struct RowPlan {
-    pub(super) bytes: usize,
-    pub(super) parts: ReversalPlan,
+struct PartToRun<'a, T, P: Plan, I> {
+    items: SliceItems<'a, T>,
+    part: Part<P>,
+    input: I,
 }
 
-impl RowPlan {
-    /// The plan for `len` items of `size` bytes, and the number of its parts. See [`cut`].
-    #[track_caller]
-    fn new(len: usize, size: usize, row_width: usize, ranges: Option<usize>) -> (RowPlan, usize) {
-        if !fits_rows(len, row_width) {
-            crate::refuse_rows(len, row_width);
-        }
-        let row = if len * size == 0 { 0 } else { row_width * size };
-        let bytes = instances::bytes_of_place(size, row);
-        // A row consists of whole places, so the rows fit in these too.
-        let (places, width) = (len * size / bytes, row / bytes);
-        let parts = ReversalPlan::new(places, width, ranges);
-        (RowPlan { bytes, parts }, parts.count())
+/// How many bytes a place has in the plan of a reversal, and the plan for `len` items of `size` bytes. See [`cut`].
+#[track_caller]
+fn plan_of(len: usize, size: usize, row_width: usize, ranges: Option<usize>) -> (usize, ReversalPlan) {
+    if !fits_rows(len, row_width) {
+        crate::refuse_rows(len, row_width);
     }
+    let row = if len * size == 0 { 0 } else { row_width * size };
+    let bytes = instances::bytes_of_place(size, row);
+    // A row consists of whole places, so the rows fit in these too.
+    (bytes, ReversalPlan::new(len * size / bytes, row / bytes, ranges))
 }
 
 /// Cuts [`transpose::transpose`](crate::transpose::transpose) into at most `parts` parts, 0 for 1.
@@ -143,13 +136,12 @@ pub fn transpose<'a, T: Copy + Send + Sync>(
     if !fits_matrix(input.len(), output.len(), width, height) {
         crate::transpose::refuse(input.len(), output.len(), width, height);
     }
+    let height = if size_of::<T>() == 0 { 0 } else { height };
     let plan = TransposePlan::new(width, height, parts, cfg!(not(feature = "checked")));
-    let count = if size_of::<T>() == 0 { 0 } else { plan.count() };
     // If the columns are cut, each region fills a run of this many cells. The last region may fill fewer.
-    let cells = if count == 0 { 0 } else { plan.items(0) };
-    let items = SliceItems::in_shares(output, cells);
-    let (plan, numbers) = ((input, plan), 0..count);
-    TransposeParts(PartsToRun { items, plan, numbers })
+    let cells = if plan.count() == 0 { 0 } else { plan.items(0) };
+    let (items, left) = (SliceItems::in_shares(output, cells), PartsLeft::of(plan));
+    TransposeParts(PartsToRun { items, left, input })
 }
 
 /// Cuts [`reverse_slice_index_bits`](crate::reverse_slice_index_bits) into about twice as many parts as you ask for.
@@ -195,18 +187,17 @@ pub fn row_reversal<F: Send>(vals: &mut [F], row_width: usize, parts: usize) -> 
 #[track_caller]
 pub(super) fn cut<F>(vals: &mut [F], row_width: usize, ranges: Option<usize>) -> ReversalParts<'_, F> {
     let len = vals.len();
-    let (plan, count) = RowPlan::new(len, size_of::<F>(), row_width, ranges);
-    let (items, numbers) = (SliceItems::in_shares(vals, len), 0..count);
-    ReversalParts(PartsToRun { items, plan, numbers })
+    let (input, plan) = plan_of(len, size_of::<F>(), row_width, ranges);
+    let (items, left) = (SliceItems::in_shares(vals, len), PartsLeft::of(plan));
+    ReversalParts(PartsToRun { items, left, input })
 }
 
-impl<T, P: Copy> PartsToRun<'_, T, P> {
-    fn split_first(&mut self) -> Option<Self> {
-        // `Range::next` yields each number once, so no two parts have the same number, and parts with different numbers
-        // have no place in common. Therefore the part may have a share of `items` while other parts have theirs.
-        let number = self.numbers.next()?;
-        let (items, plan, numbers) = (self.items.share(), self.plan, number..number + 1);
-        Some(PartsToRun { items, plan, numbers })
+impl<'a, T, P: Plan, I: Copy> PartsToRun<'a, T, P, I> {
+    fn split_first(&mut self) -> Option<PartToRun<'a, T, P, I>> {
+        // No other part has a place of this one. Therefore it may have a share of `items` while other parts have theirs.
+        let part = self.left.hand_out()?;
+        let (items, input) = (self.items.share(), self.input);
+        Some(PartToRun { items, part, input })
     }
 }
 
@@ -214,18 +205,9 @@ impl<T: Copy> TransposePart<'_, T> {
     /// Writes the items of this part to the output.
     #[inline]
     pub fn run(self) {
-        let ((input, plan), region) = (self.0.plan, self.region());
-        let matrix = Matrix::new(SliceSource::new(input), plan.width, plan.height);
-        instances::transpose_region(self.0.items, matrix, region);
-    }
-
-    /// The region of this part, if the transpose is cut.
-    #[inline]
-    fn region(&self) -> Option<Region> {
-        // `TransposePlan::region` asks for a number below the plan's count, and its clause `inside` says that the region
-        // lies in the matrix. Both lists have as many items as the matrix: `transpose` checked that.
-        let (_, plan) = self.0.plan;
-        (plan.count() > 1).then(|| plan.region(self.0.numbers.start))
+        // Both lists have as many items as the matrix: `transpose` checked that.
+        let PartToRun { items, part, input } = self.0;
+        instances::transpose_part(items, SliceSource::new(input), part);
     }
 }
 
@@ -233,10 +215,9 @@ impl<F> ReversalPart<'_, F> {
     /// Exchanges the items of this part.
     #[inline]
     pub fn run(self) {
-        // The plan is one for the rows of `items`: `RowPlan::new` checked these, and `ReversalPlan::new` says so (`plan`). If it
-        // is not cut, its one part is the call. Otherwise, the clause `below` of `RowPairs::exchange_patch` holds because
-        // `numbers` are below the plan's count, and `ready` because the pairs are those of these rows.
-        instances::run_reversal(self.0.items, self.0.plan, self.0.numbers.start);
+        // The plan is one for the rows of `items`: `plan_of` checked these, and `ReversalPlan::new` says so (`plan`).
+        let PartToRun { items, part, input } = self.0;
+        instances::reverse_part(items, input, part);
     }
 }
 
@@ -250,7 +231,7 @@ macro_rules! iterators {
             }
 
             fn size_hint(&self) -> (usize, Option<usize>) {
-                self.0.numbers.size_hint()
+                (self.0.left.count(), Some(self.0.left.count()))
             }
         }
 
@@ -266,7 +247,7 @@ macro_rules! iterators {
 
         impl<T> fmt::Debug for $part<'_, T> {
             fn fmt(&self, f: &mut fmt::Formatter<'_>) -> fmt::Result {
-                f.debug_struct(stringify!($part)).field("number", &self.0.numbers.start).finish()
+                f.debug_struct(stringify!($part)).field("number", &self.0.part.number()).finish()
             }
         }
     )*};

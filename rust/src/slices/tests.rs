@@ -6,19 +6,37 @@
 use std::array::from_fn;
 use std::boxed::Box;
 use std::fmt::Debug;
+#[cfg(any(debug_assertions, feature = "checked"))]
 use std::panic::{AssertUnwindSafe, catch_unwind};
 use std::vec::Vec;
 
-use super::choice::SliceStrips;
 #[cfg(not(feature = "checked"))]
 use super::holders::Bytes;
 #[cfg(not(feature = "checked"))]
-use super::holders::{Items, USES_REGISTERS, Vector};
+use super::holders::{Items, Vector};
 use super::holders::{SliceItems, SliceSource};
+use crate::kernels::choice::side_of;
+use crate::kernels::kernel::HIGH_ROWS;
 use crate::kernels::places::{Block, Cells, Places, Source};
 #[cfg(not(feature = "checked"))]
+use crate::kernels::registers::blocks::RunsOfCells;
+#[cfg(not(feature = "checked"))]
 use crate::kernels::registers::{Pair, Paired, Register, Runs, Single, Two};
-use crate::kernels::transpose::{Matrix, transpose_matrix, transpose_square};
+use crate::kernels::transpose::{Matrix, Strips, transpose_matrix, transpose_square};
+
+/// The strips of the package.
+type SliceStrips<const SIDE: usize> = Strips<SIDE, HIGH_ROWS>;
+
+/// Whether items are transposed in registers.
+#[cfg(not(feature = "checked"))]
+pub(super) use super::holders::USES_REGISTERS;
+#[cfg(feature = "checked")]
+pub(super) const USES_REGISTERS: bool = false;
+
+/// The side of the blocks of items of `size` bytes.
+pub(super) const fn side_by_size(size: usize) -> usize {
+    side_of(size, USES_REGISTERS, cfg!(target_arch = "x86_64"))
+}
 
 /// `i`, which has `digits` binary digits, with the digits in reversed order.
 pub(super) fn reversed(digits: usize, i: usize) -> usize {
@@ -497,8 +515,8 @@ pub(super) fn put_block<T: Copy, H: for<'a> Hold<'a, T, Holder: Cells<Item = T>>
 /// Puts a block by a holder that stores whole lines past the caches.
 #[cfg(not(feature = "checked"))]
 pub(super) fn put_past_caches<T: Copy, D: Register<T>>(cells: &mut [T], source: &[T], block: Block) {
-    let holder = SliceItems::new(cells).in_registers::<D>();
-    holder.past_caches(|mut cells| cells.put_block(&SliceSource::new(source), block));
+    let mut holder: SliceItems<T, D, true> = SliceItems::of(cells.as_mut_ptr(), cells.len());
+    holder.put_block(&SliceSource::new(source), block);
 }
 
 #[test]
@@ -537,9 +555,9 @@ fn blocks_of_lines() {
                     height,
                 };
                 let is_line = rows == line && to % line == 0 && (cols == 1 || height % line == 0);
-                assert!(!SliceItems::new(&mut list.0).in_registers::<D>().may_stream(block));
-                let holder = SliceItems::new(&mut list.0).in_registers::<D>();
-                holder.past_caches(|cells| assert_eq!(cells.may_stream(block), is_line, "{rows} {cols} {to} {height}"));
+                assert!(!SliceItems::new(&mut list.0).in_registers::<D>().may_stream_lines(block));
+                let cells: SliceItems<T, D, true> = SliceItems::of(list.0.as_mut_ptr(), list.0.len());
+                assert_eq!(cells.may_stream_lines(block), is_line, "{rows} {cols} {to} {height}");
             }
         }
     }
@@ -638,8 +656,8 @@ mod uses;
 
 #[cfg(any(debug_assertions, feature = "checked"))]
 mod refused {
-    use super::super::by_type::Output;
     use super::*;
+    use crate::kernels::calls::Output;
 
     #[test]
     fn exchanges() {
@@ -777,40 +795,10 @@ mod refused {
     #[test]
     fn copies_of_another_length() {
         for len in 0..6 {
-            let copy = || SliceItems::new(&mut [0; 3]).copy(SliceSource::new(&[7; 6][..len]));
+            let copy = || _ = SliceItems::new(&mut [0; 3]).copy(SliceSource::new(&[7; 6][..len]));
             assert_eq!(panics(copy), len != 3, "{len}");
         }
     }
-}
-
-/// Long items are put by their indices. An index that the source does not have is refused in each build, even if the source
-/// itself would take it.
-#[test]
-fn indices_of_long_items() {
-    /// Of these items only the first ones are in the source.
-    #[derive(Clone, Copy)]
-    struct First(usize);
-
-    impl Source for First {
-        type Item = [u8; 1024];
-
-        fn len(&self) -> usize {
-            self.0
-        }
-
-        fn at(&self, i: usize) -> [u8; 1024] {
-            [i as u8; 1024]
-        }
-    }
-
-    let put = |len| {
-        let mut cells = std::vec![[9; 1024]; 6];
-        let matrix = Matrix::new(First(len), 3, 2);
-        let call = || super::by_type::transpose_region(SliceItems::new(&mut cells), matrix, None);
-        catch_unwind(AssertUnwindSafe(call)).map(|()| cells.into_iter().map(|[first, ..]| first).collect())
-    };
-    assert_eq!(put(6).ok(), Some(std::vec![0, 3, 1, 4, 2, 5]));
-    assert!(put(5).is_err());
 }
 
 /// With the feature `checked`, a share of a list gives access only to its own places, which have the same indices as in

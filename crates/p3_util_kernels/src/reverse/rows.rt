@@ -91,7 +91,8 @@ impl RowDigits {
 /// The kernel of [`reverse_index_bits_short`](crate::reverse::reverse_index_bits_short).
 #[tactic(auto, using(crate::proofs::ReverseLemmas::Lengths::rows_of_one))]
 #[inline(always)]
-pub(crate) fn reverse_short<M: Places>(m: M) -> M
+#[doc(hidden)]
+pub fn reverse_short<M: Places>(m: M) -> M
     requires { IsReversible (length (M.items m)) }
     ensures order { IsReversal (M.items m) (M.items result) }
     ensures holder { M.same_holder (short_swaps (clog (length (M.items m)))) m result }

@@ -10,14 +10,17 @@ use crate::transpose::strips::{Strips, UNIT};
 use crate::transpose::ways::PutRegion;
 
 /// A matrix of fewer items is put column after column.
-pub(crate) const TINY_MATRIX: usize = 128;
+#[doc(hidden)]
+pub const TINY_MATRIX: usize = 128;
 
 /// The greatest number of items of a matrix that is not split.
-pub(crate) const LARGE_MATRIX: usize = 1_048_576;
+#[doc(hidden)]
+pub const LARGE_MATRIX: usize = 1_048_576;
 
 /// An order in which a matrix or a region of it is put. `S` is a way to put strips.
 #[derive(Clone, Copy)]
-pub(crate) enum Order<S> {
+#[doc(hidden)]
+pub enum Order<S> {
     /// Strip by strip.
     Strips(S),
     /// Leaf by leaf, as the region is split, and each leaf strip by strip.

@@ -23,7 +23,8 @@ pub const UNIT: usize = 16;
 const SMALL_MATRIX: usize = 1024;
 
 /// The greatest number of rows of a high strip.
-pub(crate) const HIGH_ROWS: usize = 128;
+#[doc(hidden)]
+pub const HIGH_ROWS: usize = 128;
 
 /// The greatest number of rows of a low strip.
 const LOW_ROWS: usize = 24;
@@ -31,7 +32,8 @@ const LOW_ROWS: usize = 24;
 /// How a region is put in strips. Strips by squares have at most `ROWS` rows, and their squares have
 /// `SIDE` rows and columns. If `SIDE` is 1, these strips too are put column after column.
 #[derive(Clone, Copy)]
-pub(crate) enum Strips<const SIDE: usize, const ROWS: usize> {
+#[doc(hidden)]
+pub enum Strips<const SIDE: usize, const ROWS: usize> {
     /// High strips, of at most 128 rows, column after column.
     High,
     /// Low strips, of at most 24 rows, column after column.
@@ -50,7 +52,8 @@ impl<const SIDE: usize, const ROWS: usize> Strips<SIDE, ROWS> {
     /// the rows are spread over the sets of the cache. A high strip is better there, since it puts
     /// longer runs of consecutive cells.
     #[inline(always)]
-    pub(crate) const fn by_width(width: usize) -> Self {
+    #[doc(hidden)]
+    pub const fn by_width(width: usize) -> Self {
         if width % UNIT == 0 {
             Strips::Low
         } else {

@@ -45,7 +45,8 @@ pub trait PutRegion: Copy {
 /// `InRows(whole, rest)` puts `ROWS` rows at a time, from top to bottom. Parts of `ROWS` rows are put
 /// in the way `whole`, and the last one in the way `rest` if it has fewer rows.
 #[derive(Clone, Copy)]
-pub(crate) struct InRows<const ROWS: usize, W, V>(pub(crate) W, pub(crate) V);
+#[doc(hidden)]
+pub struct InRows<const ROWS: usize, W, V>(pub W, pub V);
 
 impl<const ROWS: usize, W: PutRegion, V: PutRegion> PutRegion for InRows<ROWS, W, V> {
     #[inline(always)]
@@ -106,7 +107,8 @@ impl<const COLS: usize, W: PutRegion, V: PutRegion> PutRegion for InCols<COLS, W
 /// `Blocks(rest)` puts blocks of `ROWS` rows, from top to bottom, in the holder's own way. They have
 /// all columns of the region. The rows that remain are put in the way `rest`.
 #[derive(Clone, Copy)]
-pub(crate) struct Blocks<const ROWS: usize, V>(pub(crate) V);
+#[doc(hidden)]
+pub struct Blocks<const ROWS: usize, V>(pub V);
 
 impl<const ROWS: usize, V: PutRegion> PutRegion for Blocks<ROWS, V> {
     #[inline(always)]
@@ -138,7 +140,8 @@ impl<const ROWS: usize, V: PutRegion> PutRegion for Blocks<ROWS, V> {
 /// Puts blocks of many rows in the holder's own way: blocks of 8 or of 16 rows first. Most of the rows
 /// that remain are put by blocks too, and at most three of them column after column.
 #[derive(Clone, Copy)]
-pub(crate) enum RowBlocks {
+#[doc(hidden)]
+pub enum RowBlocks {
     /// Blocks of 8 rows. It is the better one for columns that are short in memory.
     Eight,
     /// Blocks of 16 rows, and then one of 8. They touch each cache line of a long column only half as

@@ -1,15 +1,22 @@
 //! The parts that a reversal is cut into.
 
+ghost use Rattle.p3_util_parts.specs.Patches.{IsPatchExchanged, patches_of};
+ghost use Rattle.p3_util_parts.specs.declared.parts.RowPairs.{RowPairs};
+ghost use Rattle.p3_util_parts.specs.declared.parts.reversal.ReversalPlan.TheVariants.{Patches, Whole};
+ghost use Rattle.p3_util_kernels.specs.Crossing.{HoldsRows};
 ghost use Rattle.p3_util_parts.specs.Plans.{IsCutAsAsked, IsReversalPlan, parts_of, width_of};
 ghost use Rattle.p3_util_kernels.specs.Reversal.{FitsRows};
 ghost use Rattle.p3_util_kernels.specs.declared.grid.TheConstants.{TILE};
-ghost use Rattle.std.specs.Prelude.{◌≡◌};
+ghost use Rattle.std.specs.Prelude.{◌≡◌, ℕ, IfErr, IfOk};
 
 use crate::parts::RowPairs;
+use crate::parts::numbers::{Part, Plan};
+use p3_util_kernels::places::Places;
 
 /// How the reversal of rows is cut.
 #[derive(Clone, Copy)]
-pub(crate) enum ReversalPlan {
+#[doc(hidden)]
+pub enum ReversalPlan {
     /// The number of items, and that of the items of each row. The call is the only part. If there
     /// are no items, there is no part.
     Whole(usize, usize),
@@ -20,7 +27,8 @@ pub(crate) enum ReversalPlan {
 impl ReversalPlan {
     /// The plan for a list of `len` items, `row_width` in each row. With a number of parts, and if
     /// there are items, it has the patches of [`RowPairs::new`].
-    pub(crate) fn new(len: usize, row_width: usize, parts: Option<usize>) -> ReversalPlan
+    #[doc(hidden)]
+    pub fn new(len: usize, row_width: usize, parts: Option<usize>) -> ReversalPlan
         requires { FitsRows len row_width }
         ensures width { width_of result ≡ row_width }
         ensures plan { IsReversalPlan len result }
@@ -33,14 +41,57 @@ impl ReversalPlan {
             _ => ReversalPlan::Whole(len, row_width),
         }
     }
+}
+
+impl Plan for ReversalPlan {
+    ghost parts = { parts_of };
 
     /// The number of parts.
-    pub(crate) fn count(self) -> usize
-        ensures { result ≡ parts_of self }
-    {
+    fn count(self) -> usize {
         match self {
             ReversalPlan::Whole(len, _) => len.min(1),
             ReversalPlan::Patches(pairs) => pairs.count(),
         }
+    }
+}
+
+impl Plan for RowPairs {
+    ghost parts = { λ pairs. patches_of pairs.rows.digits pairs.cut.part_len };
+
+    /// The number of patches that are on the diagonal of their grid or above it.
+    fn count(self) -> usize {
+        self.patches()
+    }
+}
+
+impl Part<ReversalPlan> {
+    /// The part as a patch, if the reversal is cut. Otherwise the part is the call, and the error is the number of items of
+    /// each row.
+    #[doc(hidden)]
+    pub fn patch(self) -> Result<Part<RowPairs>, usize>
+        ensures cut { IfOk result (λ patch. (self.plan ≡ Patches patch.plan) × (patch.number ≡ self.number)) }
+        ensures whole { IfErr result (λ width. (len : ℕ) × (self.plan ≡ Whole len width)) }
+    {
+        let Part { plan, number } = self;
+        match plan {
+            ReversalPlan::Whole(_, width) => Err(width),
+            ReversalPlan::Patches(pairs) => Ok(Part {
+                plan: pairs,
+                number,
+            }),
+        }
+    }
+}
+
+impl Part<RowPairs> {
+    /// Exchanges the two rows of each pair in this patch.
+    #[doc(hidden)]
+    pub fn exchange<M: Places>(self, m: M) -> M
+        requires { HoldsRows self.plan.rows.width self.plan.rows.digits (M.items m) }
+        ensures { IsPatchExchanged self.plan.rows.digits self.plan.rows.width self.plan.cut.part_len self.number
+            (M.items m) (M.items result) (λ n. M.same_holder n m result) }
+    {
+        let Part { plan, number } = self;
+        plan.exchange_patch(m, number)
     }
 }

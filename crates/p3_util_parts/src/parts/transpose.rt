@@ -5,13 +5,15 @@ ghost use Rattle.p3_util_parts.specs.Parts.{IsLeastPartLen, part_of_matrix, part
 ghost use Rattle.p3_util_kernels.specs.Region.{IsRegionTransposed, LiesInMatrix, items_of};
 
 use crate::parts::Cut;
+use crate::parts::numbers::Plan;
 use p3_util_kernels::kernel::UNIT;
 use p3_util_kernels::transpose::Region;
 
 /// The transpose of a matrix of `height` rows of `width` items, cut into regions of neighbouring
 /// rows or of neighbouring columns.
 #[derive(Clone, Copy, Debug)]
-pub(crate) struct TransposePlan {
+#[doc(hidden)]
+pub struct TransposePlan {
     pub width: usize,
     pub height: usize,
     by_rows: bool,
@@ -25,12 +27,8 @@ impl TransposePlan {
     /// Cuts the longer side into at most `parts` parts, at multiples of `UNIT`. If
     /// `may_cut_rows` is false, the columns are cut, whichever side is longer. A `parts` of 0
     /// counts as 1. A matrix without items has no region.
-    pub(crate) fn new(
-        width: usize,
-        height: usize,
-        parts: usize,
-        may_cut_rows: bool,
-    ) -> TransposePlan
+    #[doc(hidden)]
+    pub fn new(width: usize, height: usize, parts: usize, may_cut_rows: bool) -> TransposePlan
         requires { width * height < 2 ^ 64 }
         ensures width { result.width ≡ width }
         ensures height { result.height ≡ height }
@@ -57,15 +55,9 @@ impl TransposePlan {
         }
     }
 
-    /// The number of regions.
-    pub(crate) fn count(self) -> usize
-        ensures { result ≡ parts_in self.cut.len self.cut.part_len }
-    {
-        self.cut.count()
-    }
-
     /// Region `number`.
-    pub(crate) fn region(self, number: usize) -> Region
+    #[doc(hidden)]
+    pub fn region(self, number: usize) -> Region
         requires { number < parts_in self.cut.len self.cut.part_len }
         ensures region { result ≡ part_of_matrix self.width self.height self.by_rows self.cut.len
             self.cut.part_len number }
@@ -91,12 +83,22 @@ impl TransposePlan {
 
     /// The number of items of region `number`. If the columns are cut, the items of a region fill
     /// consecutive cells, right after the cells of the region before it.
-    pub(crate) fn items(self, number: usize) -> usize
+    #[doc(hidden)]
+    pub fn items(self, number: usize) -> usize
         requires { number < parts_in self.cut.len self.cut.part_len }
         ensures { result ≡ items_of (part_of_matrix self.width self.height self.by_rows self.cut.len
             self.cut.part_len number) }
     {
         let region = self.region(number);
         region.rows() * region.cols()
+    }
+}
+
+impl Plan for TransposePlan {
+    ghost parts = { λ plan. parts_in plan.cut.len plan.cut.part_len };
+
+    /// The number of regions.
+    fn count(self) -> usize {
+        self.cut.count()
     }
 }

@@ -43,8 +43,6 @@
 //!   ensures least: IsLeastPartLen parts (if row_width == 1 then TILE else 1) result.cut.len result.cut.part_len
 //!   ensures units: (k : ℕ) → k < parts_in result.cut.len result.cut.part_len → start_of result.cut.len
 //!       result.cut.part_len k % (if row_width == 1 then TILE else 1) ≡ 0
-//! fn RowPairs::count(self) -> usize
-//!   ensures: result ≡ patches_of self.rows.digits self.cut.part_len
 //! fn RowPairs::exchange_patch<M: Places>(self, m: M, number: usize) -> M
 //!   requires below: number < patches_of self.rows.digits self.cut.part_len
 //!   requires ready: HoldsRows self.rows.width self.rows.digits (M.items m)
@@ -118,6 +116,35 @@
 //!       plan.height))
 //! ```
 //!
+//! # `parts/numbers.rt`
+//!
+//! ```text
+//! trait Plan: Copy
+//!   ghost parts: Self → ℕ
+//!   fn count(self) -> usize
+//!     ensures: result ≡ parts self
+//! struct Part<P: Plan> { pub(crate) plan: P, pub(crate) number: usize, pub ghost below: { number < P.parts plan } }
+//! struct PartsLeft<P: Plan> { plan: P, next: usize, end: usize, pub ghost in_order: { next ≤ end }, pub ghost inside:
+//!     { end ≤ P.parts plan } }
+//! fn PartsLeft::of(plan: P) -> Self
+//!   ensures plan: result.plan ≡ plan
+//!   ensures first: result.next ≡ 0
+//!   ensures last: result.end ≡ P.parts plan
+//! fn PartsLeft::count(&self) -> usize
+//!   ensures: self.now.next + result ≡ self.now.end
+//! fn PartsLeft::hand_out(&mut self) -> Option<Part<P>>
+//!   ensures plan: self.new.plan ≡ self.old.plan
+//!   ensures last: self.new.end ≡ self.old.end
+//!   ensures some: IfSome result (λ part. (part.plan ≡ self.old.plan) × (part.number ≡ self.old.next) × (self.new.next
+//!       ≡ self.old.next + 1))
+//!   ensures none: IfNone result ((self.old.next ≡ self.old.end) × (self.new.next ≡ self.old.next))
+//! fn Part::plan(&self) -> P
+//!   ensures: result ≡ self.now.plan
+//! fn Part::number(&self) -> usize
+//!   ensures number: result ≡ self.now.number
+//!   ensures below: result < P.parts self.now.plan
+//! ```
+//!
 //! # `parts/reversal.rt`
 //!
 //! ```text
@@ -127,8 +154,17 @@
 //!   ensures width: width_of result ≡ row_width
 //!   ensures plan: IsReversalPlan len result
 //!   ensures cut: IsCutAsAsked len parts TILE result
-//! fn ReversalPlan::count(self) -> usize
-//!   ensures: result ≡ parts_of self
+//! impl Plan for ReversalPlan
+//!   ghost parts = parts_of
+//! impl Plan for RowPairs
+//!   ghost parts = λ pairs. patches_of pairs.rows.digits pairs.cut.part_len
+//! fn Part::patch(self) -> Result<Part<RowPairs>, usize>
+//!   ensures cut: IfOk result (λ patch. (self.plan ≡ Patches patch.plan) × (patch.number ≡ self.number))
+//!   ensures whole: IfErr result (λ width. (len : ℕ) × (self.plan ≡ Whole len width))
+//! fn Part::exchange<M: Places>(self, m: M) -> M
+//!   requires: HoldsRows self.plan.rows.width self.plan.rows.digits (M.items m)
+//!   ensures: IsPatchExchanged self.plan.rows.digits self.plan.rows.width self.plan.cut.part_len self.number (M.items
+//!       m) (M.items result) (λ n. M.same_holder n m result)
 //! ```
 //!
 //! # `parts/transpose.rt`
@@ -147,8 +183,6 @@
 //!   ensures least: IsLeastPartLen parts UNIT result.cut.len result.cut.part_len
 //!   ensures units: (k : ℕ) → k < parts_in result.cut.len result.cut.part_len → start_of result.cut.len
 //!       result.cut.part_len k % UNIT ≡ 0
-//! fn TransposePlan::count(self) -> usize
-//!   ensures: result ≡ parts_in self.cut.len self.cut.part_len
 //! fn TransposePlan::region(self, number: usize) -> Region
 //!   requires: number < parts_in self.cut.len self.cut.part_len
 //!   ensures region: result ≡ part_of_matrix self.width self.height self.by_rows self.cut.len self.cut.part_len number
@@ -157,4 +191,6 @@
 //!   requires: number < parts_in self.cut.len self.cut.part_len
 //!   ensures: result ≡ items_of (part_of_matrix self.width self.height self.by_rows self.cut.len self.cut.part_len
 //!       number)
+//! impl Plan for TransposePlan
+//!   ghost parts = λ plan. parts_in plan.cut.len plan.cut.part_len
 //! ```

@@ -2,6 +2,8 @@
 //! The parts that a reversal is cut into.
 
 use crate::kernels::parts::RowPairs;
+use crate::kernels::parts::numbers::{Part, Plan};
+use crate::kernels::places::Places;
 
 /// How the reversal of rows is cut.
 #[derive(Clone, Copy)]
@@ -33,18 +35,59 @@ impl ReversalPlan {
             _ => ReversalPlan::Whole(len, row_width),
         }
     }
+}
 
+impl Plan for ReversalPlan {
     /// The number of parts.
-    ///
-    /// # Contract
-    ///
-    /// ```text
-    /// ensures { result ≡ parts_of self }
-    /// ```
-    pub(crate) fn count(self) -> usize {
+    fn count(self) -> usize {
         match self {
             ReversalPlan::Whole(len, _) => len.min(1),
             ReversalPlan::Patches(pairs) => pairs.count(),
         }
+    }
+}
+
+impl Plan for RowPairs {
+    /// The number of patches that are on the diagonal of their grid or above it.
+    fn count(self) -> usize {
+        self.patches()
+    }
+}
+
+impl Part<ReversalPlan> {
+    /// The part as a patch, if the reversal is cut. Otherwise the part is the call, and the error is the number of items of
+    /// each row.
+    ///
+    /// # Contract
+    ///
+    /// ```text
+    /// ensures cut { IfOk result (λ patch. (self.plan ≡ Patches patch.plan) × (patch.number ≡ self.number)) }
+    /// ensures whole { IfErr result (λ width. (len : ℕ) × (self.plan ≡ Whole len width)) }
+    /// ```
+    pub(crate) fn patch(self) -> Result<Part<RowPairs>, usize> {
+        let Part { plan, number } = self;
+        match plan {
+            ReversalPlan::Whole(_, width) => Err(width),
+            ReversalPlan::Patches(pairs) => Ok(Part {
+                plan: pairs,
+                number,
+            }),
+        }
+    }
+}
+
+impl Part<RowPairs> {
+    /// Exchanges the two rows of each pair in this patch.
+    ///
+    /// # Contract
+    ///
+    /// ```text
+    /// requires { HoldsRows self.plan.rows.width self.plan.rows.digits (M.items m) }
+    /// ensures { IsPatchExchanged self.plan.rows.digits self.plan.rows.width self.plan.cut.part_len self.number
+    ///     (M.items m) (M.items result) (λ n. M.same_holder n m result) }
+    /// ```
+    pub(crate) fn exchange<M: Places>(self, m: M) -> M {
+        let Part { plan, number } = self;
+        plan.exchange_patch(m, number)
     }
 }

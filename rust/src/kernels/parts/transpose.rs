@@ -2,6 +2,7 @@
 //! The regions that the transpose of a matrix is cut into.
 
 use crate::kernels::parts::Cut;
+use crate::kernels::parts::numbers::Plan;
 use crate::kernels::kernel::UNIT;
 use crate::kernels::transpose::Region;
 
@@ -33,12 +34,7 @@ impl TransposePlan {
     /// ensures units { (k : ℕ) → k < parts_in result.cut.len result.cut.part_len
     ///     → start_of result.cut.len result.cut.part_len k % UNIT ≡ 0 }
     /// ```
-    pub(crate) fn new(
-        width: usize,
-        height: usize,
-        parts: usize,
-        may_cut_rows: bool,
-    ) -> TransposePlan {
+    pub(crate) fn new(width: usize, height: usize, parts: usize, may_cut_rows: bool) -> TransposePlan {
         let by_rows = may_cut_rows && height > width;
         let side = if width == 0 || height == 0 {
             0
@@ -53,17 +49,6 @@ impl TransposePlan {
             by_rows,
             cut: Cut::new(side, parts, UNIT),
         }
-    }
-
-    /// The number of regions.
-    ///
-    /// # Contract
-    ///
-    /// ```text
-    /// ensures { result ≡ parts_in self.cut.len self.cut.part_len }
-    /// ```
-    pub(crate) fn count(self) -> usize {
-        self.cut.count()
     }
 
     /// Region `number`.
@@ -108,5 +93,12 @@ impl TransposePlan {
     pub(crate) fn items(self, number: usize) -> usize {
         let region = self.region(number);
         region.rows() * region.cols()
+    }
+}
+
+impl Plan for TransposePlan {
+    /// The number of regions.
+    fn count(self) -> usize {
+        self.cut.count()
     }
 }

@@ -48,7 +48,7 @@ pub(crate) trait PutRegion: Copy {
 /// `InRows(whole, rest)` puts `ROWS` rows at a time, from top to bottom. Parts of `ROWS` rows are put
 /// in the way `whole`, and the last one in the way `rest` if it has fewer rows.
 #[derive(Clone, Copy)]
-pub(crate) struct InRows<const ROWS: usize, W, V>(pub(crate) W, pub(crate) V);
+pub(crate) struct InRows<const ROWS: usize, W, V>(pub W, pub V);
 
 impl<const ROWS: usize, W: PutRegion, V: PutRegion> PutRegion for InRows<ROWS, W, V> {
     #[inline(always)]
@@ -108,7 +108,7 @@ impl<const COLS: usize, W: PutRegion, V: PutRegion> PutRegion for InCols<COLS, W
 /// `Blocks(rest)` puts blocks of `ROWS` rows, from top to bottom, in the holder's own way. They have
 /// all columns of the region. The rows that remain are put in the way `rest`.
 #[derive(Clone, Copy)]
-pub(crate) struct Blocks<const ROWS: usize, V>(pub(crate) V);
+pub(crate) struct Blocks<const ROWS: usize, V>(pub V);
 
 impl<const ROWS: usize, V: PutRegion> PutRegion for Blocks<ROWS, V> {
     #[inline(always)]

@@ -7,7 +7,7 @@ use std::vec::Vec;
 
 use super::{cut, one_part_reversal, parts_of_side, row_reversal, transpose};
 use crate::kernels::lines::Lines;
-use crate::kernels::parts::{Cut, RowPairs, TransposePlan};
+use crate::kernels::parts::{Cut, Plan, RowPairs, TransposePlan};
 use crate::kernels::places::{Cells, Places, SliceCells, SlicePlaces, SliceSource, Source};
 use crate::kernels::reverse::{RowDigits, reverse_rows};
 use crate::kernels::transpose::{Columns, Matrix, Order, PutRegion, Strips};

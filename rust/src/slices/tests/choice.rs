@@ -3,82 +3,25 @@
 use core::ops::Range;
 use std::vec::Vec;
 
-use super::super::choice::{
-    Choice, LIMITS, OF_USERS, ShortChoice, SliceStrips, choice_of, row_blocks_of, short_choice_of, side_of, strips_of,
-};
-use super::super::holders::USES_REGISTERS;
-use super::{Noted, transposed};
+#[cfg(not(feature = "checked"))]
+use super::SliceItems;
+use super::{Noted, SliceStrips, USES_REGISTERS, side_by_size, transposed};
+#[cfg(not(feature = "checked"))]
+use crate::kernels::calls::Output;
+use crate::kernels::choice::{Limits, row_blocks_of, strips_of};
+use crate::kernels::kernel::RowBlocks;
 use crate::kernels::places::{Block, Cells, SliceSource, Source};
-use crate::kernels::transpose::{Matrix, PutRegion, Region, RowBlocks, Strips, transpose_matrix};
+use crate::kernels::transpose::{Matrix, PutRegion, Region, Strips, transpose_matrix};
 
-const IS_AARCH64: bool = cfg!(target_arch = "aarch64");
-
-const HAS_LINES: bool = USES_REGISTERS && cfg!(target_arch = "x86_64");
-
-/// How some rows and columns of a matrix are put, as a part of a call that is cut.
-fn choice_of_part(
-    limits: [usize; 3],
-    size: usize,
-    sides: [usize; 2],
-    [rows, cols]: [usize; 2],
-    first: usize,
-) -> Choice {
+/// Whether some rows and columns of a matrix are put by lines, if the holder has lines.
+fn fit_part(limits: Limits, size: usize, [width, height]: [usize; 2], [rows, cols]: [usize; 2], first: usize) -> bool {
     let region = Region {
         row_start: 1,
         row_end: 1 + rows,
         col_start: 5,
         col_end: 5 + cols,
     };
-    choice_of(limits, size, sides, Some(region), first)
-}
-
-/// The same for all rows and columns, by the limits of these tests.
-fn choice_of_all(size: usize, width: usize, height: usize, first: usize) -> Choice {
-    choice_of_part(LIMITS, size, [width, height], [height, width], first)
-}
-
-/// Each row of the first table, by the limits of these tests. With them a list of 1024 bytes is long, and so is every row and column.
-#[test]
-fn choices() {
-    for size in [1, 2, 3, 4, 8, 12, 16, 32, 1023] {
-        let short = |width, height| short_choice_of(size, width, height);
-        for other in [0, 1, 2, 127, 128, 1 << 30] {
-            for few in [0, 1] {
-                assert_eq!(
-                    [short(few, other), short(other, few)],
-                    [Some(ShortChoice::Copied); 2],
-                    "{size} {other}"
-                );
-            }
-        }
-        for (width, height) in (2..=64).flat_map(|width| (2..=64).map(move |height| (width, height))) {
-            let is_block = USES_REGISTERS
-                && match size {
-                    1 | 2 => (width, height) == (8, 8),
-                    4 | 8 if IS_AARCH64 => (width, height) == (8, 8),
-                    4 | 8 => (width, height) == (4, 4),
-                    _ => false,
-                };
-            let wanted = match width * height {
-                _ if is_block => Some(ShortChoice::Block),
-                ..128 => Some(ShortChoice::Columns),
-                _ => None,
-            };
-            assert_eq!(short(width, height), wanted, "{size} {width} {height}");
-            assert_eq!(choice_of(LIMITS, size, [width, height], None, 1), Choice::Strips);
-            assert_eq!(choice_of_all(size, width, height, 1), Choice::Leaves);
-        }
-    }
-    for size in [1024, 1 << 20] {
-        assert_eq!(short_choice_of(size, 1, 5), Some(ShortChoice::Copied));
-        assert_eq!([short_choice_of(size, 2, 2), short_choice_of(size, 8, 8)], [None; 2]);
-        assert_eq!(choice_of_all(size, 64, 64, 0), Choice::Leaves);
-    }
-    for size in [1, 3, 12, 1023, 1024] {
-        let whole = |width, height| choice_of(LIMITS, size, [width, height], None, 1);
-        assert_eq!([whole(2, 2), whole(1024, 1024)], [Choice::Strips; 2]);
-        assert_eq!([whole(1025, 1024), whole(2, 524_289)], [Choice::Leaves; 2]);
-    }
+    limits.fit(size, Matrix::new((), width, height), region, first)
 }
 
 /// The rows of the second table.
@@ -88,7 +31,7 @@ fn strips() {
         let by_width = if width % 16 == 0 { "low" } else { "high" };
         for size in [0, 1, 2, 3, 4, 8, 12, 16, 32, 64] {
             let by_blocks = USES_REGISTERS && matches!(size, 1 | 2 | 4 | 8);
-            let strips = match side_of(size) {
+            let strips = match side_by_size(size) {
                 4 => name(strips_of::<4>(width)),
                 8 => name(strips_of::<8>(width)),
                 side => {
@@ -132,7 +75,7 @@ fn blocks_of_rows() {
     }
 }
 
-fn name<const SIDE: usize>(strips: SliceStrips<SIDE>) -> &'static str {
+fn name<const SIDE: usize>(strips: Strips<SIDE, 128>) -> &'static str {
     match strips {
         Strips::High => "high",
         Strips::Low => "low",
@@ -140,26 +83,25 @@ fn name<const SIDE: usize>(strips: SliceStrips<SIDE>) -> &'static str {
     }
 }
 
-/// Items that are not aligned are put as others. A whole call goes by lines only if it has too many items for strips.
+/// Items that are not aligned are put as others.
+#[cfg(not(feature = "checked"))]
 #[test]
 fn lines_of_long_lists() {
     for size in [1, 2, 4, 8, 12, 16, 32] {
         for (width, height) in [(16, 16), (19, 37), (5, 30), (2000, 2000)] {
             for first in [0, size, 64 - size, 4096 + 2 * size, 1, size / 2] {
                 let is_long = matches!(size, 4 | 8 | 16) && width * height * size >= 1024 && first % size == 0;
-                let wanted = if HAS_LINES && is_long {
-                    Choice::Lines
-                } else {
-                    Choice::Leaves
-                };
                 assert_eq!(
-                    choice_of_all(size, width, height, first),
-                    wanted,
+                    fit_part(
+                        SliceItems::<u8>::limits(),
+                        size,
+                        [width, height],
+                        [height, width],
+                        first
+                    ),
+                    is_long,
                     "{size} {width} by {height} at {first}"
                 );
-                if width * height > 1 << 20 {
-                    assert_eq!(choice_of(LIMITS, size, [width, height], None, first), wanted);
-                }
             }
         }
     }
@@ -192,31 +134,15 @@ fn lines_of_users() {
         (12, [1 << 20, 1024], [1024, 1 << 19]),
         (32, [1 << 20, 1024], [1024, 1 << 19]),
     ];
-    let lines = if HAS_LINES { Choice::Lines } else { Choice::Leaves };
     let wanted = by_lines
-        .map(|case| (case, lines))
+        .map(|case| (case, true))
         .into_iter()
-        .chain(not_by_lines.map(|case| (case, Choice::Leaves)));
+        .chain(not_by_lines.map(|case| (case, false)));
     for ((size, sides, part), wanted) in wanted {
-        let of_part = |first| choice_of_part(OF_USERS, size, sides, part, first);
+        let of_part = |first| fit_part(Limits::of_users(), size, sides, part, first);
         assert_eq!([0, size, 4096].map(of_part), [wanted; 3], "{size} {sides:?} {part:?}");
-        assert_eq!([1, size / 2, size + 1].map(of_part), [Choice::Leaves; 3]);
+        assert_eq!([1, size / 2, size + 1].map(of_part), [false; 3]);
     }
-}
-
-/// A whole call that is not too long goes by strips.
-#[test]
-fn calls_of_users() {
-    let lines = if HAS_LINES { Choice::Lines } else { Choice::Leaves };
-    let of_call = |size, sides| choice_of(OF_USERS, size, sides, None, 0);
-    assert_eq!(
-        [of_call(16, [1024, 1024]), of_call(16, [1024, 1025])],
-        [Choice::Strips, lines]
-    );
-    assert_eq!(
-        [of_call(8, [1025, 1024]), of_call(8, [2048, 1024])],
-        [Choice::Leaves, lines]
-    );
 }
 
 /// The column and the row of each item of a region, column after column.

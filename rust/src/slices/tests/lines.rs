@@ -9,6 +9,7 @@ use super::{Aligned, transposed};
 use crate::kernels::lines::Lines;
 use crate::kernels::places::{Block, Cells, Source};
 use crate::kernels::registers::Two;
+use crate::kernels::registers::blocks::RunsOfCells;
 use crate::kernels::transpose::{Matrix, PutRegion};
 use crate::slices::holders::{SliceItems, SliceSource};
 use crate::slices::parts::{TransposePart, transpose};
@@ -141,7 +142,7 @@ impl Cells for Streamed<'_> {
     fn put(&mut self, _: usize, _: u32) {}
 
     fn put_block<R: Source<Item = u32>>(&mut self, _: &R, block: Block) {
-        self.lines += block.cols * usize::from(self.cells.may_stream(block));
+        self.lines += block.cols * usize::from(self.cells.may_stream_lines(block));
     }
 }
 
@@ -151,19 +152,18 @@ fn lines_at_all_offsets() {
     for (before, width, height) in (0..16).flat_map(|before| (1..=48).map(move |height| (before, 12, height))) {
         let (source, mut list) = ([0; 12 * 48], Aligned([0; 600]));
         let len = width * height;
-        SliceItems::new(&mut list.0[before..before + len]).past_caches(|cells| {
-            let matrix = Matrix::new(SliceSource::new(&source[..len]), width, height);
-            let put = cells.lines().put(Streamed { cells, lines: 0 }, matrix, matrix.whole());
-            let within = |x: usize| {
-                let first = before + x * height;
-                ((first + height) / 16).saturating_sub(first.div_ceil(16))
-            };
-            assert_eq!(
-                put.lines,
-                (0..width).map(within).sum(),
-                "{height} rows from {before} on"
-            );
-        });
+        let cells = SliceItems::of(list.0[before..before + len].as_mut_ptr(), len);
+        let matrix = Matrix::new(SliceSource::new(&source[..len]), width, height);
+        let put = Lines::new(16, before).put(Streamed { cells, lines: 0 }, matrix, matrix.whole());
+        let within = |x: usize| {
+            let first = before + x * height;
+            ((first + height) / 16).saturating_sub(first.div_ceil(16))
+        };
+        assert_eq!(
+            put.lines,
+            (0..width).map(within).sum(),
+            "{height} rows from {before} on"
+        );
     }
 }
 

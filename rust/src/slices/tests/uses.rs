@@ -1,15 +1,14 @@
 //! Tests what a call does with the choice, and not only what is chosen: a holder notes each of its calls. A result would be the
 //! same in any way.
 
-use core::marker::PhantomData;
 use core::ops::Range;
 use std::vec::Vec;
 
-use super::super::by_type::{Input, Output, transpose, transpose_region};
+use super::{SliceItems, USES_REGISTERS, side_by_size};
+use crate::kernels::calls::{Output, transpose_region, transpose_whole};
 #[cfg(feature = "checked")]
-use super::super::choice::row_blocks_of;
-use super::super::choice::{side_of, strips_of};
-use super::super::holders::USES_REGISTERS;
+use crate::kernels::choice::row_blocks_of;
+use crate::kernels::choice::{Limits, strips_of};
 use crate::kernels::places::{Block, Cells, SliceSource, Source};
 use crate::kernels::transpose::{Matrix, PutRegion, Region};
 
@@ -22,73 +21,97 @@ enum Did {
     Put(usize),
 }
 
+type Held<'a, const N: usize> = SliceItems<'a, [u8; N]>;
+
 /// Cells that note what is done to them, and put nothing.
-struct Told<'a, T> {
+struct Told<'a, const N: usize> {
     did: &'a mut Vec<Did>,
     len: usize,
     address: usize,
-    item: PhantomData<T>,
 }
 
-impl<T: Copy> Cells for Told<'_, T> {
-    type Item = T;
+impl<const N: usize> Cells for Told<'_, N> {
+    type Item = [u8; N];
 
     fn len(&self) -> usize {
         self.len
     }
 
-    fn put(&mut self, i: usize, _: T) {
+    fn put(&mut self, i: usize, _: [u8; N]) {
         self.did.push(Did::Put(i));
     }
 
-    fn put_block<R: Source<Item = T>>(&mut self, _: &R, block: Block) {
+    fn put_block<R: Source<Item = [u8; N]>>(&mut self, _: &R, block: Block) {
         self.did.push(Did::Block(block.to, block.rows * block.cols));
     }
 }
 
-impl<T: Copy> Output for Told<'_, T> {
+impl<'a, const N: usize> Output for Told<'a, N> {
+    const SIZE: usize = Held::<'a, N>::SIZE;
+    const IS_INLINED: bool = Held::<'a, N>::IS_INLINED;
+    const TESTS_INDICES: bool = Held::<'a, N>::TESTS_INDICES;
+    const HAS_REGISTERS: bool = Held::<'a, N>::HAS_REGISTERS;
+    const IS_X86_64: bool = Held::<'a, N>::IS_X86_64;
+
+    fn limits() -> Limits {
+        Held::<'a, N>::limits()
+    }
+
     fn address(&self) -> usize {
         self.address
     }
 
-    fn copy(self, _: impl Input<T>) {
+    fn copy<R: Source<Item = [u8; N]> + Copy>(self, _: R) -> Self {
         self.did.push(Did::Copied);
+        self
     }
 
-    fn put_by_lines(self, _: Matrix<impl Input<T>>, _: Region) {
+    fn put_past_caches<W: PutRegion, R: Source<Item = [u8; N]> + Copy>(self, _: W, _: Matrix<R>, _: Region) -> Self {
         self.did.push(Did::Lines);
+        self
     }
 }
 
 /// What a call does to cells of which the first has this address.
-fn told<T: Copy + Default>(
+fn told<const N: usize>(
     address: usize,
     [width, height]: [usize; 2],
-    call: impl FnOnce(Told<T>, Matrix<SliceSource<T>>),
+    call: impl for<'a> FnOnce(Told<'a, N>, Matrix<SliceSource<[u8; N]>>) -> Told<'a, N>,
 ) -> Vec<Did> {
-    let (source, mut did) = (std::vec![T::default(); width * height], Vec::new());
+    let (source, mut did) = (std::vec![[0; N]; width * height], Vec::new());
     let cells = Told {
         did: &mut did,
         len: source.len(),
         address,
-        item: PhantomData,
     };
-    call(cells, Matrix::new(SliceSource::new(&source), width, height));
+    let _ = call(cells, Matrix::new(SliceSource::new(&source), width, height));
     did
 }
 
 /// Puts a region by the strips, or the blocks of rows, that suit the matrix.
-fn put_strips<T: Copy>(cells: Told<T>, matrix: Matrix<SliceSource<T>>, region: Region) {
-    #[cfg(feature = "checked")]
-    if let Some(blocks) = row_blocks_of(size_of::<T>(), matrix.width, matrix.height) {
-        let _ = blocks.put(cells, matrix, region);
-        return;
+fn put_strips<'a, const N: usize>(
+    cells: Told<'a, N>,
+    matrix: Matrix<SliceSource<[u8; N]>>,
+    region: Region,
+) -> Told<'a, N> {
+    if N >= 1024 {
+        for top in (region.row_start..region.row_end).step_by(16) {
+            let rows = top..region.row_end.min(top + 16);
+            let cols = region.col_start..region.col_end;
+            let places = cols.flat_map(|x| rows.clone().map(move |y| x * matrix.height + y));
+            cells.did.extend(places.map(Did::Put));
+        }
+        return cells;
     }
-    _ = match side_of(size_of::<T>()) {
+    #[cfg(feature = "checked")]
+    if let Some(blocks) = row_blocks_of(N, matrix.width, matrix.height) {
+        return blocks.put(cells, matrix, region);
+    }
+    match side_by_size(N) {
         4 => strips_of::<4>(matrix.width).put(cells, matrix, region),
         8 => strips_of::<8>(matrix.width).put(cells, matrix, region),
         _ => strips_of::<1>(matrix.width).put(cells, matrix, region),
-    };
+    }
 }
 
 /// The leaves of some rows and columns: the longer side is halved, down to 128 rows and columns or 2 of either.
@@ -113,8 +136,8 @@ fn leaves(rows: Range<usize>, cols: Range<usize>) -> Vec<Region> {
 
 /// A whole call copies a row or a column, puts a block or few items at once, and all else in strips. So does a call that is one
 /// part.
-fn check_whole<T: Copy + Default>() {
-    let size = size_of::<T>();
+fn check_whole<const N: usize>() {
+    let size = N;
     for sides in [
         [1, 5],
         [5, 1],
@@ -128,37 +151,43 @@ fn check_whole<T: Copy + Default>() {
         [150, 140],
     ] {
         let [width, height] = sides;
-        let wanted = match side_of(size) {
+        let wanted = match side_by_size(size) {
             _ if width < 2 || height < 2 => [Did::Copied].into(),
             side if side > 1 && sides == [side; 2] => [Did::Block(0, side * side)].into(),
-            _ if width * height < 128 && cfg!(not(feature = "checked")) => (0..width * height).map(Did::Put).collect(),
-            _ if width * height < 128 => continue,
-            _ => told::<T>(1, sides, |cells, matrix| put_strips(cells, matrix, matrix.whole())),
+            _ if width * height < 128 && size < 1024 && cfg!(not(feature = "checked")) => {
+                (0..width * height).map(Did::Put).collect()
+            }
+            _ if width * height < 128 && size < 1024 => continue,
+            _ => told::<N>(1, sides, |cells, matrix| put_strips(cells, matrix, matrix.whole())),
         };
-        let by_call = told::<T>(1, sides, |cells, matrix| transpose(cells, matrix.source, width, height));
+        let by_call = told::<N>(1, sides, |cells, matrix| {
+            transpose_whole(cells, matrix.source, width, height)
+        });
         assert!(by_call == wanted, "{size} {sides:?}");
-        let by_part = told::<T>(1, sides, |cells, matrix| transpose_region(cells, matrix, None));
+        let by_part = told::<N>(1, sides, |cells, matrix| {
+            transpose_region(cells, matrix, matrix.whole())
+        });
         assert!(by_part == wanted, "{size} {sides:?}");
     }
 }
 
 /// A part is put by lines if its cells begin at a multiple of an item, by the limits of these tests, and otherwise by leaves.
-fn check_parts<T: Copy + Default>() {
-    let (size, sides) = (size_of::<T>(), [400, 300]);
+fn check_parts<const N: usize>() {
+    let (size, sides) = (N, [400, 300]);
     let has_lines = USES_REGISTERS && cfg!(target_arch = "x86_64") && matches!(size, 4 | 8 | 16);
-    for (rows, cols) in [(0..300, 0..400), (16..290, 32..200), (0..300, 7..8)] {
-        let put = |address, region| told::<T>(address, sides, |cells, matrix| transpose_region(cells, matrix, region));
+    for (rows, cols) in [(16..300, 0..400), (16..290, 32..200), (0..300, 7..8)] {
+        let put = |address, region| told::<N>(address, sides, |cells, matrix| transpose_region(cells, matrix, region));
         let all = leaves(rows.clone(), cols.clone());
         let by_leaves: Vec<Did> = all
             .into_iter()
-            .flat_map(|leaf| told::<T>(1, sides, |cells, matrix| put_strips(cells, matrix, leaf)))
+            .flat_map(|leaf| told::<N>(1, sides, |cells, matrix| put_strips(cells, matrix, leaf)))
             .collect();
-        let region = Some(Region {
+        let region = Region {
             row_start: rows.start,
             row_end: rows.end,
             col_start: cols.start,
             col_end: cols.end,
-        });
+        };
         if size > 1 {
             assert!(put(1, region) == by_leaves, "{size} {rows:?} {cols:?}");
         }
@@ -172,9 +201,9 @@ fn check_parts<T: Copy + Default>() {
 fn choices_are_used() {
     macro_rules! of {
         ($($bytes:literal)*) => { $(
-            check_whole::<[u8; $bytes]>();
-            check_parts::<[u8; $bytes]>();
+            check_whole::<$bytes>();
+            check_parts::<$bytes>();
         )* };
     }
-    of!(1 2 3 4 8 12 16 32);
+    of!(1 2 3 4 8 12 16 32 1023 1024);
 }

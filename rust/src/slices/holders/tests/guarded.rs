@@ -7,6 +7,7 @@ use std::ptr::null_mut;
 
 use super::super::{SliceItems, SliceSource, USES_REGISTERS};
 use crate::kernels::places::{Block, Cells, Places, Source};
+use crate::kernels::registers::blocks::RunsOfCells;
 use crate::kernels::registers::{Pair, Register, Two};
 use crate::slices::parts::{TransposePart, transpose};
 use crate::slices::tests::*;

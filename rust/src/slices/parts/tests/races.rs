@@ -92,10 +92,15 @@ fn parts_on_threads() {
 }
 
 /// Takes two plans for the list of `parts`, and one part of each.
-fn of_both<'a, T, P: Copy>(mut parts: PartsToRun<'a, T, P>, plans: [(P, usize); 2]) -> [PartsToRun<'a, T, P>; 2] {
+fn of_both<'a, T, P: Plan, I: Copy>(
+    mut parts: PartsToRun<'a, T, P, I>,
+    plans: [(P, usize); 2],
+) -> [PartToRun<'a, T, P, I>; 2] {
     plans.map(|(plan, number)| {
-        let (items, numbers) = (parts.items.share(), number..number + 1);
-        PartsToRun { items, plan, numbers }
+        let mut left = PartsLeft::of(plan);
+        let part = from_fn(|| left.hand_out()).nth(number).unwrap();
+        let (items, input) = (parts.items.share(), parts.input);
+        PartToRun { items, part, input }
     })
 }
 
@@ -104,9 +109,9 @@ fn of_both<'a, T, P: Copy>(mut parts: PartsToRun<'a, T, P>, plans: [(P, usize); 
 fn exchanges_both(len: usize, row_width: usize) {
     let mut list: Vec<usize> = (0..len).collect();
     let ReversalParts(parts) = cut(&mut list, row_width, Some(1));
-    let plans = [1, 2].map(|ranges| RowPlan::new(len, size_of::<usize>(), row_width, Some(ranges)));
-    assert_eq!(plans.map(|(_, count)| count), [1, 3]);
-    let both = of_both(parts, plans.map(|(plan, _)| (plan, 0)));
+    let plans = [1, 2].map(|ranges| plan_of(len, size_of::<usize>(), row_width, Some(ranges)).1);
+    assert_eq!(plans.map(Plan::count), [1, 3]);
+    let both = of_both(parts, plans.map(|plan| (plan, 0)));
     run_all(both.map(|part| std::vec![ReversalPart(part)]), ReversalPart::run);
 }
 
@@ -117,7 +122,7 @@ fn overlapping_regions() {
     let input: Vec<u32> = (0..64 * 64).collect();
     let mut output = input.clone();
     let TransposeParts(parts) = transpose(&input, &mut output, 64, 64, 1);
-    let cuts = [(2, 0), (4, 1)].map(|(count, part)| ((parts.plan.0, TransposePlan::new(64, 64, count, true)), part));
+    let cuts = [(2, 0), (4, 1)].map(|(count, part)| (TransposePlan::new(64, 64, count, true), part));
     let both = of_both(parts, cuts);
     run_all(both.map(|part| std::vec![TransposePart(part)]), TransposePart::run);
 }

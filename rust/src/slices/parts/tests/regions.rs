@@ -5,13 +5,14 @@ use core::cell::RefCell;
 use std::vec::Vec;
 
 use super::super::super::by_type;
-#[cfg(feature = "checked")]
-use super::super::super::choice::row_blocks_of;
-use super::super::super::choice::{side_of, strips_of};
-use super::super::super::holders::USES_REGISTERS;
 use super::super::*;
+use crate::kernels::calls::transpose_region;
+#[cfg(feature = "checked")]
+use crate::kernels::choice::row_blocks_of;
+use crate::kernels::choice::strips_of;
 use crate::kernels::places::Source;
-use crate::kernels::transpose::{Order, transpose_matrix};
+use crate::kernels::transpose::{Matrix, Order, transpose_matrix};
+use crate::slices::tests::{USES_REGISTERS, side_by_size};
 
 /// A slice that notes the index of each read.
 #[derive(Clone, Copy)]
@@ -48,23 +49,7 @@ fn reads<T: Copy + Default + Send + Sync>(len: usize, call: impl FnOnce(&[T], &m
 
 /// Runs a part, with its items from `source`.
 fn run_from<T: Copy>(part: TransposePart<T>, source: impl Source<Item = T> + Copy) {
-    let (region, (_, plan)) = (part.region(), part.0.plan);
-    let matrix = Matrix::new(source, plan.width, plan.height);
-    by_type::transpose_region(part.0.items, matrix, region);
-}
-
-/// A transpose that is not cut is put as a whole call, and not as a region, which is the whole matrix.
-#[test]
-fn only_a_cut_transpose_has_regions() {
-    let (input, mut output) = ([0; 64 * 48], [0; 64 * 48]);
-    let mut count = |width, height, asked| {
-        let parts = transpose(&input, &mut output, width, height, asked);
-        let regions = parts.map(|part| part.region().map(|region| region.rows() * region.cols()));
-        regions.collect::<Vec<_>>()
-    };
-    assert_eq!(count(64, 48, 1), [None]);
-    assert_eq!(count(64, 48, 0), [None]);
-    assert_eq!(count(64, 48, 4), [Some(16 * 48); 4]);
+    by_type::transpose_part(part.0.items, source, part.0.part);
 }
 
 #[test]
@@ -87,7 +72,7 @@ fn put_by_strips<T: Copy>(output: &mut [T], matrix: Matrix<impl Source<Item = T>
         let _ = transpose_matrix(cells, matrix, blocks);
         return;
     }
-    let _ = match side_of(size) {
+    let _ = match side_by_size(size) {
         4 => transpose_matrix(cells, matrix, strips_of::<4>(width)),
         8 => transpose_matrix(cells, matrix, strips_of::<8>(width)),
         _ => transpose_matrix(cells, matrix, strips_of::<1>(width)),
@@ -134,7 +119,7 @@ fn strips_of_calls_on_slices() {
     fn puts_by_strips<T: Copy + Default + Send + Sync>(width: usize, height: usize) {
         let by_call = reads::<T>(width * height, |_, output, source| {
             let matrix = Matrix::new(source, width, height);
-            by_type::transpose_region(SliceItems::new(output), matrix, None);
+            let _ = transpose_region(SliceItems::new(output), matrix, matrix.whole());
         });
         let by_strips = reads::<T>(width * height, |_, output, source| {
             let matrix = Matrix::new(source, width, height);

@@ -1,0 +1,366 @@
+//! What a call on slices does, once its precondition was tested. Whatever a holder says of itself, and whatever
+//! [`choice`](crate::choice) chooses, each function here does what its name says: its contract is that of the kernel.
+
+ghost use Rattle.std.specs.Prelude.{◌≡◌, ◌≢◌, ℕ, ◌*◌, ◌^◌, ◌<◌, length, slice_get};
+ghost use Rattle.p3_util_kernels.specs.Columns.{HoldsColumn, IsColumnPut};
+ghost use Rattle.p3_util_kernels.specs.Region.{IsReady, IsRegionTransposed, items_of};
+ghost use Rattle.p3_util_kernels.specs.Reversal.{FitsRows, IsRowReversal};
+ghost use Rattle.p3_util_kernels.specs.SwapCounts.{row_swaps};
+ghost use Rattle.p3_util_kernels.specs.Transpose.{IsTranspose};
+
+use crate::choice::{LONG_BYTES, Limits, has_lines, row_blocks_of, side_of, strips_of};
+use p3_util_kernels::kernel::{
+    Blocks, Columns, InRows, LARGE_MATRIX, Matrix, Order, PutRegion, RowDigits, TINY_MATRIX, UNIT,
+    put_as_block,
+};
+use p3_util_kernels::places::{Cells, Places, Source};
+use p3_util_kernels::transpose::Region;
+use p3_util_registers::lines::Lines;
+
+/// The bytes of a cache line.
+const LINE: usize = 64;
+
+/// The cells of a call, and what the choice of a way depends on: first what a build has, and then what follows from it. Only the
+/// time depends on these constants.
+pub(crate) trait Output: Cells {
+    /// The bytes of an item.
+    const SIZE: usize;
+
+    /// Whether a matrix of few items is put by code that is inlined.
+    const IS_INLINED: bool;
+
+    /// Whether the holder tests each index. Then blocks of several rows take less time than columns.
+    const TESTS_INDICES: bool = true;
+
+    /// Whether the holder transposes items in registers.
+    const HAS_REGISTERS: bool = false;
+
+    /// Whether the processor is an x86-64.
+    const IS_X86_64: bool = false;
+
+    /// Whether an item is so long that it is put by a function of its own.
+    const IS_LONG: bool = LONG_BYTES <= Self::SIZE;
+
+    /// The side of the squares of items that the holder transposes in registers, or 1.
+    const SIDE: usize = side_of(Self::SIZE, Self::HAS_REGISTERS, Self::IS_X86_64);
+
+    /// Whether the holder can store whole lines past the caches.
+    const HAS_LINES: bool = has_lines(Self::SIZE, Self::HAS_REGISTERS, Self::IS_X86_64);
+
+    /// From how many bytes on lines are put.
+    fn limits() -> Limits {
+        Limits::of_users()
+    }
+
+    /// The address of the first cell, or 0 if no choice depends on it.
+    fn address(&self) -> usize {
+        0
+    }
+
+    /// Puts all items of a list of the same length, in the same order.
+    fn copy<R: Source<Item = Self::Item> + Copy>(self, source: R) -> Self
+    where
+        Self: Sized,
+        requires { length (R.items source) ≡ length (Self.items self) }
+        ensures copied { Self.items result ≡ R.items source }
+        ensures holder { Self.same_holder (length (Self.items self)) self result };
+
+    /// Puts a region in this way. The holder may store whole lines past the caches until it returns.
+    fn put_past_caches<W: PutRegion, R: Source<Item = Self::Item> + Copy>(
+        self,
+        way: W,
+        matrix: Matrix<R>,
+        region: Region,
+    ) -> Self
+    where
+        Self: Sized,
+        requires { IsReady region matrix.width matrix.height (R.items matrix.source) (Self.items self) }
+        ensures transposed { IsRegionTransposed region matrix.width matrix.height
+            (R.items matrix.source) (Self.items self) (Self.items result) }
+        ensures holder { Self.same_holder (items_of region) self result }
+    {
+        way.put(self, matrix, region)
+    }
+}
+
+/// Transposes a matrix. A user's crate has this, and without debug assertions puts columns itself, since a call would take as
+/// long. The calls have single arguments and no matrix, so that all are in registers and need no room on the stack.
+#[inline(always)]
+pub(crate) fn transpose_whole<M: Output, R: Source<Item = M::Item> + Copy>(
+    cells: M,
+    source: R,
+    width: usize,
+    height: usize,
+) -> M
+    requires input_fits { length (R.items source) ≡ width * height }
+    requires output_fits { length (M.items cells) ≡ width * height }
+    ensures order { IsTranspose width height (R.items source) (M.items result) }
+    ensures holder { M.same_holder (width * height) cells result }
+{
+    let items = source.len();
+    if width <= 1 {
+        return cells.copy(source);
+    }
+    // Here, and not above, the compiler makes fewer tests for the other choices.
+    match M::SIDE {
+        0 | 1 => {}
+        side => {
+            if width == side && height == side {
+                return transpose_block(cells, source, width, height);
+            }
+        }
+    }
+    if height <= 1 {
+        return cells.copy(source);
+    }
+    if !M::IS_LONG && items < TINY_MATRIX {
+        if M::IS_INLINED {
+            return transpose_tiny(cells, source, width, height);
+        }
+        return transpose_tiny_apart(cells, source, width, height);
+    }
+    transpose_apart(cells, source, width, height)
+}
+
+/// Transposes a matrix of few items.
+#[inline(always)]
+fn transpose_tiny<M: Output, R: Source<Item = M::Item> + Copy>(
+    cells: M,
+    source: R,
+    width: usize,
+    height: usize,
+) -> M
+    requires input_fits { length (R.items source) ≡ width * height }
+    requires output_fits { length (M.items cells) ≡ width * height }
+    requires len_fits { length (R.items source) < 2 ^ 64 }
+    ensures order { IsTranspose width height (R.items source) (M.items result) }
+    ensures holder { M.same_holder (width * height) cells result }
+{
+    let matrix = Matrix::new(source, width, height);
+    let whole = matrix.whole();
+    if M::TESTS_INDICES {
+        Blocks::<4, _>(Columns).put(cells, matrix, whole)
+    } else {
+        Columns.put(cells, matrix, whole)
+    }
+}
+
+/// Does the same as [`transpose_tiny`]. With debug assertions, a user's crate is often not optimized, and the package may be.
+#[inline(never)]
+fn transpose_tiny_apart<M: Output, R: Source<Item = M::Item> + Copy>(
+    cells: M,
+    source: R,
+    width: usize,
+    height: usize,
+) -> M
+    requires input_fits { length (R.items source) ≡ width * height }
+    requires output_fits { length (M.items cells) ≡ width * height }
+    requires len_fits { length (R.items source) < 2 ^ 64 }
+    ensures order { IsTranspose width height (R.items source) (M.items result) }
+    ensures holder { M.same_holder (width * height) cells result }
+{
+    transpose_tiny(cells, source, width, height)
+}
+
+/// Transposes a matrix of one block, in the holder's own way.
+#[inline(never)]
+fn transpose_block<M: Output, R: Source<Item = M::Item> + Copy>(
+    cells: M,
+    source: R,
+    width: usize,
+    height: usize,
+) -> M
+    requires some_cols { 0 < width }
+    requires some_rows { 0 < height }
+    requires input_fits { length (R.items source) ≡ width * height }
+    requires output_fits { length (M.items cells) ≡ width * height }
+    requires len_fits { length (R.items source) < 2 ^ 64 }
+    ensures order { IsTranspose width height (R.items source) (M.items result) }
+    ensures holder { M.same_holder (width * height) cells result }
+{
+    let matrix = Matrix::new(source, width, height);
+    let whole = matrix.whole();
+    put_as_block(cells, matrix, whole)
+}
+
+/// Transposes a matrix that is neither copied nor one block, and has many items or long ones.
+#[inline(never)]
+fn transpose_apart<M: Output, R: Source<Item = M::Item> + Copy>(
+    cells: M,
+    source: R,
+    width: usize,
+    height: usize,
+) -> M
+    requires input_fits { length (R.items source) ≡ width * height }
+    requires output_fits { length (M.items cells) ≡ width * height }
+    ensures order { IsTranspose width height (R.items source) (M.items result) }
+    ensures holder { M.same_holder (width * height) cells result }
+{
+    let matrix = Matrix::new(source, width, height);
+    let whole = matrix.whole();
+    let is_large = source.len() > LARGE_MATRIX;
+    put_region(cells, matrix, whole, is_large)
+}
+
+/// Puts a region of a matrix. If it `is_large`, it is put by lines or by leaves.
+#[inline(always)]
+fn put_region<M: Output, R: Source<Item = M::Item> + Copy>(
+    cells: M,
+    matrix: Matrix<R>,
+    region: Region,
+    is_large: bool,
+) -> M
+    requires { IsReady region matrix.width matrix.height (R.items matrix.source) (M.items cells) }
+    ensures transposed { IsRegionTransposed region matrix.width matrix.height
+        (R.items matrix.source) (M.items cells) (M.items result) }
+    ensures holder { M.same_holder (items_of region) cells result }
+{
+    let (size, width) = (M::SIZE, matrix.width);
+    if M::HAS_LINES && is_large && M::limits().fit(size, matrix, region, cells.address()) {
+        return put_by_lines(cells, matrix, region);
+    }
+    if M::IS_LONG {
+        return order_of(is_large, InRows::<UNIT, _, _>(LongColumns, LongColumns)).put(
+            cells, matrix, region,
+        );
+    }
+    if M::TESTS_INDICES {
+        if let Some(blocks) = row_blocks_of(size, width, matrix.height) {
+            return order_of(is_large, blocks).put(cells, matrix, region);
+        }
+    }
+    // The side is a constant, so that an instance has no code for other squares.
+    match M::SIDE {
+        4 => order_of(is_large, strips_of::<4>(width)).put(cells, matrix, region),
+        8 => order_of(is_large, strips_of::<8>(width)).put(cells, matrix, region),
+        _ => order_of(is_large, strips_of::<1>(width)).put(cells, matrix, region),
+    }
+}
+
+/// The order of a region that is not put by lines.
+#[inline(always)]
+fn order_of<S: PutRegion>(is_large: bool, strips: S) -> Order<S> {
+    if is_large {
+        Order::Leaves(strips)
+    } else {
+        Order::Strips(strips)
+    }
+}
+
+/// Puts a region by cache lines of the output, past the caches.
+#[inline(never)]
+fn put_by_lines<M: Output, R: Source<Item = M::Item> + Copy>(
+    cells: M,
+    matrix: Matrix<R>,
+    region: Region,
+) -> M
+    requires { IsReady region matrix.width matrix.height (R.items matrix.source) (M.items cells) }
+    ensures transposed { IsRegionTransposed region matrix.width matrix.height
+        (R.items matrix.source) (M.items cells) (M.items result) }
+    ensures holder { M.same_holder (items_of region) cells result }
+{
+    let size = M::SIZE;
+    match size {
+        4 | 8 | 16 => {
+            let lines = Lines::new(LINE / size, cells.address() % LINE / size);
+            cells.put_past_caches(lines, matrix, region)
+        }
+        _ => Columns.put(cells, matrix, region),
+    }
+}
+
+/// Puts a region of long items column after column. A build without optimization has copies of an item on the stack in each
+/// function that the item goes through. So it goes through [`put_item`] alone.
+#[derive(Clone, Copy)]
+struct LongColumns;
+
+impl PutRegion for LongColumns {
+    fn put<M: Cells, R: Source<Item = M::Item> + Copy>(
+        self,
+        out: M,
+        matrix: Matrix<R>,
+        region: Region,
+    ) -> M {
+        if region.row_start == region.row_end {
+            // A region without rows has no item, however many columns it has.
+            return out;
+        }
+        let mut out = out;
+        for col in region.col_start..region.col_end {
+            let from = region.row_start * matrix.width + col;
+            let to = col * matrix.height + region.row_start;
+            out = put_long_column(out, matrix, from, to, region.rows());
+        }
+        out
+    }
+}
+
+/// Puts a column of `rows` items into consecutive cells from `to` on. The column begins at index `from` of the source.
+fn put_long_column<M: Cells, R: Source<Item = M::Item> + Copy>(
+    out: M,
+    matrix: Matrix<R>,
+    from: usize,
+    to: usize,
+    rows: usize,
+) -> M
+    requires column { HoldsColumn rows from matrix.width to (R.items matrix.source) (M.items out) }
+    ensures put { IsColumnPut rows from matrix.width to (R.items matrix.source) (M.items out)
+        (M.items result) }
+    ensures holder { M.same_holder rows out result }
+{
+    let mut out = out;
+    let mut t = 0;
+    while t < rows {
+        put_item(&mut out, matrix.source, from + t * matrix.width, to + t);
+        t += 1;
+    }
+    out
+}
+
+/// Puts the item at index `from` of a source into cell `to`.
+#[inline(never)]
+fn put_item<M: Cells, R: Source<Item = M::Item> + Copy>(
+    out: &mut M,
+    source: R,
+    from: usize,
+    to: usize,
+)
+    requires from { from < length (R.items source) }
+    requires to { to < length (M.items out.old) }
+    ensures same_length { length (M.items out.new) ≡ length (M.items out.old) }
+    ensures put { slice_get (M.items out.new) to ≡ slice_get (R.items source) from }
+    ensures others { (p : ℕ) → p ≢ to → slice_get (M.items out.new) p ≡ slice_get (M.items out.old) p }
+    ensures holder { M.same_holder 1 out.old out.new }
+{
+    out.put(to, source.at(from));
+}
+
+/// Puts a region of a matrix. One that is the whole matrix is put as a whole call.
+#[inline(always)]
+pub(crate) fn transpose_region<M: Output, R: Source<Item = M::Item> + Copy>(
+    cells: M,
+    matrix: Matrix<R>,
+    region: Region,
+) -> M
+    requires { IsReady region matrix.width matrix.height (R.items matrix.source) (M.items cells) }
+    ensures transposed { IsRegionTransposed region matrix.width matrix.height
+        (R.items matrix.source) (M.items cells) (M.items result) }
+    ensures holder { M.same_holder (items_of region) cells result }
+{
+    if region.rows() == matrix.height && region.cols() == matrix.width {
+        transpose_whole(cells, matrix.source, matrix.width, matrix.height)
+    } else {
+        put_region(cells, matrix, region, true)
+    }
+}
+
+/// Reverses the order of rows of `row_width` items by index bits.
+#[inline(always)]
+pub(crate) fn reverse_rows<M: Places>(items: M, row_width: usize) -> M
+    requires { FitsRows (length (M.items items)) row_width }
+    ensures order { IsRowReversal row_width (M.items items) (M.items result) }
+    ensures holder { M.same_holder (row_swaps (length (M.items items)) row_width) items result }
+{
+    let rows = RowDigits::of(items.len(), row_width);
+    p3_util_kernels::kernel::reverse_rows(items, rows)
+}

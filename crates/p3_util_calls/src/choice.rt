@@ -1,0 +1,139 @@
+//! How a matrix, or a part of it, is put. Each way is right for each matrix: this is what the contracts of
+//! [`calls`](crate::calls) say, whatever the functions here return.
+//!
+//! The first line that fits says how a matrix is put. A *whole call* puts the whole matrix, and so does a single part.
+//!
+//! | Matrix | Put | Why |
+//! |---|---|---|
+//! | a whole call, fewer than two rows or columns | as a copy | its items keep their order |
+//! | a whole call, one block: [`side_of`] | as this block | in registers |
+//! | a whole call, fewer than 128 items of less than 1 KiB: `TINY_MATRIX`, [`LONG_BYTES`] | column after column, in code that is inlined without debug assertions | another call would take as long |
+//! | a whole call, up to 1048576 items: `LARGE_MATRIX` | in strips | the lines and pages in use stay in the caches |
+//! | 16 MiB and more, items of 4, 8 or 16 bytes at a multiple of their size, 128 bytes and more in a row of the matrix or part, and 320 in a column: [`Limits`] | by lines | what is stored past the caches is not read first, but whole lines have to be stored. A part of a line, which a column may have at both of its ends, takes longer |
+//! | all others | in leaves, with the same strips | a leaf stays in the caches |
+//!
+//! | Items | Strips | Why |
+//! |---|---|---|
+//! | 1 or 2 bytes | high, by blocks of 8 by 8 | a register holds one or two rows of such a block |
+//! | 4 or 8 bytes | high, by blocks of 4 by 4. On aarch64, by blocks of 8 by 8 | a register holds a row of 4, or half a row. See [`side_of`] |
+//! | 1 KiB and more | of 16 rows, column after column, each item by a function of its own | in a build without optimization, other functions would have copies of it on the stack |
+//! | all others | low if 16 divides the width, otherwise high, column after column | see `Strips::by_width` |
+//!
+//! Lines are put on x86-64, and blocks where items are transposed in registers. Elsewhere these rows fit no matrix. Where each
+//! index is tested, [`row_blocks_of`] comes before the strips.
+
+ghost use Rattle.p3_util_kernels.specs.Region.{LiesInMatrix};
+
+use p3_util_kernels::kernel::{HIGH_ROWS, Matrix, RowBlocks, Strips};
+use p3_util_kernels::transpose::Region;
+
+/// An item of so many bytes is exchanged as a run of bytes, which takes hardly longer, and is put by a function of its own.
+pub(crate) const LONG_BYTES: usize = 1024;
+
+/// Where each index is tested, items of so many bytes are put one by one if their list has more than `ROWS_LONG_LIST` bytes.
+const ROWS_LONG_ITEM: usize = 16;
+
+const ROWS_LONG_LIST: usize = 1 << 19;
+
+/// Where each index is tested, a matrix with columns of so many bytes is put by blocks of 16 rows.
+const ROWS_LONG_COLUMN: usize = 1 << 9;
+
+/// From how many bytes on a matrix is put by lines.
+#[derive(Clone, Copy)]
+pub(crate) struct Limits {
+    /// Those of the list.
+    pub list: usize,
+    /// Those in a row of the matrix or part.
+    pub row: usize,
+    /// Those in a column.
+    pub column: usize,
+}
+
+impl Limits {
+    /// The limits for users.
+    #[inline(always)]
+    pub(crate) const fn of_users() -> Limits {
+        Limits {
+            list: 1 << 24,
+            row: 128,
+            column: 320,
+        }
+    }
+
+    /// Whether a region of a matrix of items of `size` bytes is put by lines. `at` is the address of the first cell of the
+    /// output. The list is in memory, so no product wraps.
+    #[inline(always)]
+    pub(crate) fn fit<R: Copy>(
+        self,
+        size: usize,
+        matrix: Matrix<R>,
+        region: Region,
+        at: usize,
+    ) -> bool
+        requires { LiesInMatrix region matrix.width matrix.height }
+    {
+        let items = matrix.width.wrapping_mul(matrix.height);
+        let is_aligned = match size {
+            4 | 8 | 16 => at % size == 0,
+            _ => false,
+        };
+        is_aligned
+            && items.wrapping_mul(size) >= self.list
+            && region.cols().wrapping_mul(size) >= self.row
+            && region.rows().wrapping_mul(size) >= self.column
+    }
+}
+
+/// The strips of a matrix, and of the leaves of its parts. If they are put by squares, these have `SIDE` by `SIDE` items:
+/// `SIDE` is [`side_of`] these items.
+#[inline(always)]
+pub(crate) fn strips_of<const SIDE: usize>(width: usize) -> Strips<SIDE, HIGH_ROWS> {
+    if SIDE > 1 {
+        Strips::Squares
+    } else {
+        Strips::by_width(width)
+    }
+}
+
+/// Where each index is tested, a matrix is put by blocks of several rows instead of columns and strips. The holder tests each
+/// row and each column of such a block, but not each item:
+///
+/// | Matrix | [`RowBlocks`] | Why |
+/// |---|---|---|
+/// | fewer than 128 items: column after column above | none: blocks of 4 rows | such a matrix has few rows |
+/// | items of 1 KiB and more: [`LONG_BYTES`] | none: strips as above | the tests take little of the time of so many bytes |
+/// | items of 16 bytes and more: `ROWS_LONG_ITEM`, more than 512 KiB: `ROWS_LONG_LIST` | none | the same |
+/// | a column of 512 bytes and more: `ROWS_LONG_COLUMN` | `Sixteen` | half as many parts of a cache line of the output are stored |
+/// | all others | `Eight` | the loop needs fewer registers |
+#[inline(always)]
+pub(crate) fn row_blocks_of(size: usize, width: usize, height: usize) -> Option<RowBlocks> {
+    let column = height.wrapping_mul(size);
+    if size >= ROWS_LONG_ITEM && width.wrapping_mul(column) > ROWS_LONG_LIST {
+        None
+    } else if column >= ROWS_LONG_COLUMN {
+        Some(RowBlocks::Sixteen)
+    } else {
+        Some(RowBlocks::Eight)
+    }
+}
+
+/// The side of the blocks in which items of `size` bytes are transposed in registers, or 1 if there are none. On aarch64, which
+/// has 32 vector registers, a block of 8 by 8 items of 4 or 8 bytes takes fewer instructions than four blocks of 4 by 4, and
+/// than columns. On x86-64, which has 16 without AVX-512, it would go through memory.
+#[inline(always)]
+pub(crate) const fn side_of(size: usize, has_registers: bool, is_x86_64: bool) -> usize {
+    match size {
+        4 | 8 if has_registers && is_x86_64 => 4,
+        1 | 2 | 4 | 8 if has_registers => 8,
+        _ => 1,
+    }
+}
+
+/// Whether items of `size` bytes may be put by lines. On aarch64, that was not tried.
+#[inline(always)]
+pub(crate) const fn has_lines(size: usize, has_registers: bool, is_x86_64: bool) -> bool {
+    match size {
+        4 | 8 | 16 => has_registers && is_x86_64,
+        _ => false,
+    }
+}

@@ -1,0 +1,8 @@
+//! What the package of plain Rust does with the lists of a call: which kernel it runs, and on what. No call in Rattle uses this:
+//! a call in Rattle knows nothing of the size of an item.
+#![tactic(auto)]
+
+pub(crate) mod calls;
+pub(crate) mod choice;
+mod laws;
+pub(crate) mod part;

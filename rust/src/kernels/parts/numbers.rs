@@ -1,0 +1,105 @@
+// rust/erase writes this file from crates/p3_util_parts/src/parts/numbers.rt. Make changes there.
+//! The parts of a call, each of which is handed out once.
+
+/// How a call is cut into parts. They have the numbers below [`count`](Plan::count).
+pub(crate) trait Plan: Copy {
+    /// The number of parts.
+    ///
+    /// # Contract
+    ///
+    /// ```text
+    /// ensures { result ≡ parts self }
+    /// ```
+    fn count(self) -> usize;
+}
+
+/// A part of a call. Only [`PartsLeft::hand_out`] makes one, and there is no copy of it.
+pub(crate) struct Part<P: Plan> {
+    pub(crate) plan: P,
+    pub(crate) number: usize,
+}
+
+/// The parts of a call that are still to be handed out: those with the numbers from `next` on.
+pub(crate) struct PartsLeft<P: Plan> {
+    plan: P,
+    next: usize,
+    end: usize,
+}
+
+impl<P: Plan> PartsLeft<P> {
+    /// All parts of a plan.
+    ///
+    /// # Contract
+    ///
+    /// ```text
+    /// ensures plan { result.plan ≡ plan }
+    /// ensures first { result.next ≡ 0 }
+    /// ensures last { result.end ≡ P.parts plan }
+    /// ```
+    pub(crate) fn of(plan: P) -> Self {
+        PartsLeft {
+            plan,
+            next: 0,
+            end: plan.count(),
+        }
+    }
+
+    /// The number of parts that are left.
+    ///
+    /// # Contract
+    ///
+    /// ```text
+    /// ensures { self.now.next + result ≡ self.now.end }
+    /// ```
+    pub(crate) fn count(&self) -> usize {
+        self.end - self.next
+    }
+
+    /// Hands out the next part. Each call that returns a part returns the one with the next number.
+    ///
+    /// # Contract
+    ///
+    /// ```text
+    /// ensures plan { self.new.plan ≡ self.old.plan }
+    /// ensures last { self.new.end ≡ self.old.end }
+    /// ensures some { IfSome result (λ part. (part.plan ≡ self.old.plan)
+    ///     × (part.number ≡ self.old.next) × (self.new.next ≡ self.old.next + 1)) }
+    /// ensures none { IfNone result ((self.old.next ≡ self.old.end) × (self.new.next ≡ self.old.next)) }
+    /// ```
+    pub(crate) fn hand_out(&mut self) -> Option<Part<P>> {
+        if self.next == self.end {
+            return None;
+        }
+        let number = self.next;
+        self.next += 1;
+        Some(Part {
+            plan: self.plan,
+            number,
+        })
+    }
+}
+
+impl<P: Plan> Part<P> {
+    /// The plan of the call.
+    ///
+    /// # Contract
+    ///
+    /// ```text
+    /// ensures { result ≡ self.now.plan }
+    /// ```
+    pub(crate) fn plan(&self) -> P {
+        self.plan
+    }
+
+    /// The number of the part.
+    ///
+    /// # Contract
+    ///
+    /// ```text
+    /// ensures number { result ≡ self.now.number }
+    /// ensures below { result < P.parts self.now.plan }
+    /// ```
+    pub(crate) fn number(&self) -> usize {
+        self.number
+    }
+}
