@@ -1,8 +1,9 @@
 -- The loop of `apply_to_chunks`: whole pieces were folded, and the items after them wait in a buffer.
-use Rattle.std.proofs.Common.{Bor, Option, None, subst, ◌≡◌, ℕ, ◌+◌, ◌*◌, ◌<◌, ◌≤◌, List, [], ◌∷◌, ◌++◌, length, take, set, refl, ◌∙◌, arith, length-append, append_assoc, append-nil}
+use Rattle.std.proofs.Common.{Bor, Option, Some, None, ◌≡◌, ℕ, ◌+◌, ◌*◌, ◌<◌, ◌≤◌, List, [], ◌∷◌, ◌++◌, length, take, set, refl, ◌∙◌, arith, length-append, append_assoc, append-nil}
 use Rattle.std.proofs.lemmas.Fn.{FoldsTo-push}
 use Rattle.std.proofs.lemmas.Grind.{take-set_at}
 use Rattle.std.proofs.lemmas.List.{length-take-le, length-set, take_all}
+use Rattle.std.proofs.iter.Next.{Yields-more}
 use Rattle.std.proofs.iter.runs.Made.{run_of_exit}
 use Rattle.std.specs.Fn.{Mut, CalledAt}
 use Rattle.std.specs.Iterator.{Yields}
@@ -18,33 +19,40 @@ pub record FoldsWhole {P A : Type 0} (R : P → List A → P → Type 0) (n : �
   pub front : List A
   pub whole : length front ≡ count * n
   pub split : items ≡ front ++ take len buf
-  pub below : len < n
+  pub below : len ≤ n
   pub room : length buf ≡ n
   pub folded : FoldsTo R p (pieces n front) q
 
 module _ {P A : Type 0} {R : P → List A → P → Type 0} {n : ℕ} {p : P} where
   pub FoldsWhole-start : (buf : List A) → 0 < n → length buf ≡ n → FoldsWhole R n p [] buf 0 p
-  FoldsWhole-start buf some room = record { count = 0; front = []; whole = omega arith; split = refl; below = some; room = room; folded = rw (pieces-nil {A = A} n) refl }
+  FoldsWhole-start buf some room = record { count = 0; front = []; whole = omega arith; split = refl; below = omega arith; room = room; folded = rw (pieces-nil {A = A} n) refl }
 
   -- one more item is in the buffer
-  front-push : {items buf : List A} {len : ℕ} {q : P} (h : FoldsWhole R n p items buf len q) (x : A) → items ++ x ∷ [] ≡ h.front ++ take (len + 1) (set buf len x)
-  front-push {items} {buf} {len} h x =
-      let room : len < length buf = omega (arith, h.below, h.room) in
-      rw (take-set_at buf len (len + 1) x refl room, ← append_assoc h.front (take len buf) (x ∷ []), ← h.split) refl
+  pub FoldsWhole-push : {items buf : List A} {len : ℕ} {q : P} → FoldsWhole R n p items buf len q → (x : A) → len < n → FoldsWhole R n p (items ++ x ∷ []) (set buf len x) (len + 1) q
+  FoldsWhole-push {items} {buf} {len} h x more =
+      let place : len < length buf = omega (arith, more, h.room) in
+      record {
+        count = h.count;
+        front = h.front;
+        whole = h.whole;
+        split = rw (take-set_at buf len (len + 1) x refl place, ← append_assoc h.front (take len buf) (x ∷ []), ← h.split) refl;
+        below = omega arith;
+        room = length-set buf len x ∙ h.room;
+        folded = h.folded;
+      }
 
-  -- the buffer was full, and R took it as one more piece
-  pub FoldsWhole-flush : {items buf : List A} {len : ℕ} {q r : P} → FoldsWhole R n p items buf len q → (x : A) → len + 1 ≡ n → R q (set buf len x) r → FoldsWhole R n p (items ++ x ∷ []) (set buf len x) 0 r
-  FoldsWhole-flush {items} {buf} {len} {q} {r} h x full took =
-      let room : length (set buf len x) ≡ n = length-set buf len x ∙ h.room in
-      let all : take (len + 1) (set buf len x) ≡ set buf len x = take_all (len + 1) (set buf len x) (omega arith) in
+  -- the buffer is full, and R took it as one more piece
+  pub FoldsWhole-flush : {items buf : List A} {len : ℕ} {q r : P} → FoldsWhole R n p items buf len q → 0 < n → n ≤ len → R q buf r → FoldsWhole R n p items buf 0 r
+  FoldsWhole-flush {items} {buf} {len} {q} {r} h some full took =
+      let all : take len buf ≡ buf = take_all len buf (omega (arith, h.room)) in
       record {
         count = h.count + 1;
-        front = h.front ++ set buf len x;
-        whole = rw (length-append h.front (set buf len x)) (omega (arith, h.whole));
-        split = rw (append-nil (h.front ++ set buf len x)) (rw all at (front-push h x));
+        front = h.front ++ buf;
+        whole = rw (length-append h.front buf) (omega (arith, h.whole, h.room));
+        split = rw (append-nil (h.front ++ buf)) (rw all at h.split);
         below = omega arith;
-        room = room;
-        folded = rw (pieces-more n h.count h.front (set buf len x) h.whole (omega arith) (omega arith)) (FoldsTo-push R p (pieces n h.front) q (set buf len x) r h.folded took);
+        room = h.room;
+        folded = rw (pieces-more n h.count h.front buf h.whole (omega (arith, h.room)) (omega (arith, h.room))) (FoldsTo-push R p (pieces n h.front) q buf r h.folded took);
       }
 
   pub FoldsWhole-end : {items buf : List A} {len : ℕ} {q : P} → FoldsWhole R n p items buf len q → len ≤ 0 → FoldsTo R p (pieces n items) q
@@ -58,9 +66,36 @@ module _ {P A : Type 0} {R : P → List A → P → Type 0} {n : ℕ} {p : P} wh
       let long : length (take len buf) ≡ len = length-take-le len buf (omega (arith, h.below, h.room)) in
       rw (h.split, pieces-more n h.count h.front (take len buf) h.whole (omega arith) (omega (arith, h.below))) (FoldsTo-push R p (pieces n h.front) q (take len buf) r h.folded took)
 
--- the run of an iterator that a loop over it made, with the calls on the pieces of its items
-pub calls-whole : {S F A : Type 0} (g : Mut F (Bor (List A) × Unit {0}) (Unit {0})) (steps : S → Option A → S → Type 0) {s i t u : S} (n : ℕ) (xs : List A) (f last : F)
-    → i ≡ s → Yields steps i xs t → steps t None u → FoldsTo (λ p piece q. CalledAt g p piece tt q) f (pieces n xs) last → WholeRun steps s (λ p. CallsOnPieces g n f p.items)
-calls-whole {F = F} g steps {s} {i} {t} {u} n xs f last from came ended calls =
-    let r = run_of_exit steps s xs t (subst (λ k. Yields steps k xs t) from came) u ended in
-    (r.0, r.1, r.2, (last, rw r.3.0 calls))
+-- The iterator s was made from `input`, and calls of it gave `items`. Whole pieces of these were folded, from p to q. The
+-- others are the first `len` items of `buf`.
+pub record Cuts {U S P A : Type 0} (made : U → S → Type 0) (steps : S → Option A → S → Type 0) (R : P → List A → P → Type 0) (n : ℕ) (input : U) (p : P) (buf : List A) (len : ℕ) (s : S) (q : P) : Type 0 where
+  pub first : S
+  pub from : made input first
+  pub items : List A
+  pub came : Yields steps first items s
+  pub folds : FoldsWhole R n p items buf len q
+
+module _ {U S P A : Type 0} {made : U → S → Type 0} {steps : S → Option A → S → Type 0} {R : P → List A → P → Type 0} {n : ℕ} {input : U} {p : P} where
+  pub Cuts-start : (s : S) (buf : List A) → made input s → 0 < n → length buf ≡ n → Cuts made steps R n input p buf 0 s p
+  Cuts-start s buf from some room = record { first = s; from = from; items = []; came = refl; folds = FoldsWhole-start buf some room }
+
+  module _ {buf : List A} {len : ℕ} {s : S} {q : P} (h : Cuts made steps R n input p buf len s q) where
+    pub Cuts-push : {x : A} {t : S} → len < n → steps s (Some x) t → Cuts made steps R n input p (set buf len x) (len + 1) t q
+    Cuts-push {x} {t} more step = record {
+      first = h.first;
+      from = h.from;
+      items = h.items ++ x ∷ [];
+      came = Yields-more steps h.first h.items s x t h.came step;
+      folds = FoldsWhole-push h.folds x more;
+    }
+
+    pub Cuts-flush : {r : P} → 0 < n → n ≤ len → R q buf r → Cuts made steps R n input p buf 0 s r
+    Cuts-flush some full took = record { first = h.first; from = h.from; items = h.items; came = h.came; folds = FoldsWhole-flush h.folds some full took }
+
+-- the whole run of the iterator, with the calls on all pieces of its items
+pub calls-whole : {U S F A : Type 0} (g : Mut F (Bor (List A) × Unit {0}) (Unit {0})) {made : U → S → Type 0} {steps : S → Option A → S → Type 0} {n : ℕ} {input : U} {f q : F} {buf : List A} {len : ℕ} {s t : S} (last : F)
+    (h : Cuts made steps (λ p piece r. CalledAt g p piece tt r) n input f buf len s q) → steps s None t → FoldsTo (λ p piece r. CalledAt g p piece tt r) f (pieces n h.items) last
+    → (it : S) × made input it × WholeRun steps it (λ p. CallsOnPieces g n f p.items)
+calls-whole g {steps = steps} {s = s} {t = t} last h ended calls =
+    let r = run_of_exit steps h.first h.items s h.came t ended in
+    (h.first, h.from, (r.0, r.1, r.2, (last, rw r.3.0 calls)))

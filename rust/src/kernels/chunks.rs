@@ -40,17 +40,19 @@ where
         return;
     }
     let mut buf = [0; BUFLEN];
-    let mut len = 0;
-    for byte in &mut iter {
-        buf[len] = byte;
-        len += 1;
-        if len == BUFLEN {
-            func(buf.as_slice());
-            len = 0;
+    'chunks: loop {
+        let mut len = 0;
+        while len < BUFLEN {
+            let Some(byte) = iter.next() else {
+                if len > 0 {
+                    func(&buf.as_slice()[..len]);
+                }
+                break 'chunks;
+            };
+            buf[len] = byte;
+            len += 1;
         }
-    }
-    if len > 0 {
-        func(&buf.as_slice()[..len]);
+        func(buf.as_slice());
     }
 }
 
