@@ -3,10 +3,11 @@
 use core::alloc::Layout;
 use core::fmt::{self, Debug, Formatter};
 use core::ops::Index;
+use core::slice::Iter;
 
 use crate::kernels::linear_map as proved;
 #[doc(inline)]
-pub use crate::kernels::linear_map::{Iter, Keys, Values};
+pub use crate::kernels::linear_map::{Keys, Values};
 use crate::memory::{Global, granted};
 
 /// A map in insertion order, for few keys.
@@ -84,8 +85,8 @@ impl<K: Eq, V> LinearMap<K, V> {
 
     /// The pairs, in order. Their number is that of the iterator.
     #[doc(alias = "len")]
-    pub fn iter(&self) -> Iter<'_, K, V> {
-        self.0.iter()
+    pub fn iter(&self) -> Iter<'_, (K, V)> {
+        self.into_iter()
     }
 }
 
@@ -134,7 +135,7 @@ impl<K: Eq, V> IntoIterator for LinearMap<K, V> {
 impl<'a, K: Eq, V> IntoIterator for &'a LinearMap<K, V> {
     type Item = &'a (K, V);
 
-    type IntoIter = core::slice::Iter<'a, (K, V)>;
+    type IntoIter = Iter<'a, (K, V)>;
 
     fn into_iter(self) -> Self::IntoIter {
         (&self.0).into_iter()

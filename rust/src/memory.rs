@@ -30,13 +30,8 @@ impl<G> Display for NoRoom<G> {
 
 impl<G: Debug> Error for NoRoom<G> {}
 
-/// The error of a call for which there was no memory, with the item that was not added.
-#[derive(Debug)]
-pub struct PushError<T> {
-    pub value: T,
-}
-
 /// The value of a call that allocates. Panics if there was no memory.
+#[inline(always)]
 #[track_caller]
 pub(crate) fn granted<T, E>(answer: Result<T, E>) -> T {
     match answer {
@@ -112,19 +107,17 @@ impl<T> Vec<T> {
         Ok(list)
     }
 
+    #[inline(always)]
     pub fn reserve(&mut self, items: usize) -> Result<(), AllocError> {
+        // Even if there is room, `try_reserve` would be a call.
+        if self.0.capacity() - self.0.len() >= items {
+            return Ok(());
+        }
         self.0.try_reserve(items).map_err(|_| AllocError)
     }
 
-    pub fn push(&mut self, value: T) -> Result<(), PushError<T>> {
-        if self.0.len() == self.0.capacity() && self.reserve(1).is_err() {
-            return Err(PushError { value });
-        }
-        self.push_reserved(value);
-        Ok(())
-    }
-
     /// Appends `value`. There must be room for it.
+    #[inline(always)]
     pub fn push_reserved(&mut self, value: T) {
         self.0.push(value);
     }

@@ -134,6 +134,7 @@ impl<K: Eq + Drop, V> LinearMap<K, V> {
     /// A known key keeps its place and its stored spelling: its old value is returned, and `k` is
     /// dropped. A new pair goes to the end. Only a new pair can need memory. If there is none,
     /// `NoRoom` returns the pair, and the map is unchanged.
+    #[inline(always)]
     pub fn insert(&mut self, k: K, v: V) -> Result<Option<V>, NoRoom<(K, V)>>
         ensures old { IfOk result (λ old. old ≡ value_at K.eq self.old k) }
         ensures put { OnOk result (self.new ≡ put K.eq self.old k v) }
@@ -148,11 +149,10 @@ impl<K: Eq + Drop, V> LinearMap<K, V> {
         if let Some(place) = self.place_of(&k) {
             return Ok(Some(replace(&mut self.pairs[place].1, v)));
         }
-        if let Err(refused) = self.pairs.push((k, v)) {
-            return Err(NoRoom {
-                given: refused.value,
-            });
+        if self.pairs.reserve(1).is_err() {
+            return Err(NoRoom { given: (k, v) });
         }
+        self.pairs.push_reserved((k, v));
         Ok(None)
     }
 

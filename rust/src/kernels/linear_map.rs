@@ -184,15 +184,15 @@ impl<K: Eq, V> LinearMap<K, V> {
     ///     → keys_of self.new ≡ keys_of self.old }
     /// ensures distinct { HasDistinctKeys K.eq self.new }
     /// ```
+    #[inline(always)]
     pub fn insert(&mut self, k: K, v: V) -> Result<Option<V>, NoRoom<(K, V)>> {
         if let Some(place) = self.place_of(&k) {
             return Ok(Some(replace(&mut self.pairs[place].1, v)));
         }
-        if let Err(refused) = self.pairs.push((k, v)) {
-            return Err(NoRoom {
-                given: refused.value,
-            });
+        if self.pairs.reserve(1).is_err() {
+            return Err(NoRoom { given: (k, v) });
         }
+        self.pairs.push_reserved((k, v));
         Ok(None)
     }
 

@@ -1,9 +1,10 @@
 //! The map.
 
 use std::cell::{Cell, RefCell};
+use std::slice::Iter;
 use std::sync::atomic::{AtomicUsize, Ordering::Relaxed};
 
-use p3_util_proved::linear_map::{Iter, Keys, LinearMap, Values};
+use p3_util_proved::linear_map::{Keys, LinearMap, Values};
 
 use crate::common::Owner;
 
@@ -77,7 +78,7 @@ fn stored_keys_are_compared_with_the_given_one() {
 fn iterators_from_both_ends() {
     let map = LinearMap::from_iter([(1, 'a'), (2, 'b'), (3, 'c')]);
     let (mut pairs, mut keys, mut values) = (map.iter(), map.keys(), map.values());
-    let lens = |pairs: &Iter<_, _>, keys: &Keys<_, _>, values: &Values<_, _>| [pairs.len(), keys.len(), values.len()];
+    let lens = |pairs: &Iter<_>, keys: &Keys<_, _>, values: &Values<_, _>| [pairs.len(), keys.len(), values.len()];
     assert_eq!(
         (pairs.next_back(), keys.next_back(), values.next_back()),
         (Some(&(3, 'c')), Some(&3), Some(&'c'))

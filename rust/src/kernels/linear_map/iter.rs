@@ -108,8 +108,7 @@ impl<'a, K, V> Iterator for Keys<'a, K, V> {
 
     #[inline(always)]
     fn next(&mut self) -> Option<&'a K> {
-        let pair = self.pairs.next()?;
-        Some(&pair.0)
+        self.pairs.next().map(|pair| &pair.0)
     }
 
     /// The number of keys that are left, as the lower and as the upper bound.
@@ -131,8 +130,7 @@ impl<'a, K, V> Iterator for Keys<'a, K, V> {
 
 impl<'a, K, V> DoubleEndedIterator for Keys<'a, K, V> {
     fn next_back(&mut self) -> Option<&'a K> {
-        let pair = self.pairs.next_back()?;
-        Some(&pair.0)
+        self.pairs.next_back().map(|pair| &pair.0)
     }
 }
 
@@ -179,8 +177,7 @@ impl<'a, K, V> Iterator for Values<'a, K, V> {
 
     #[inline(always)]
     fn next(&mut self) -> Option<&'a V> {
-        let pair = self.pairs.next()?;
-        Some(&pair.1)
+        self.pairs.next().map(|pair| &pair.1)
     }
 
     /// The number of values that are left, as the lower and as the upper bound.
@@ -202,8 +199,7 @@ impl<'a, K, V> Iterator for Values<'a, K, V> {
 
 impl<'a, K, V> DoubleEndedIterator for Values<'a, K, V> {
     fn next_back(&mut self) -> Option<&'a V> {
-        let pair = self.pairs.next_back()?;
-        Some(&pair.1)
+        self.pairs.next_back().map(|pair| &pair.1)
     }
 }
 

@@ -28,25 +28,25 @@ invariant_of-self g c =
 pub returns-in-Some-clause-distinct : goal.returns-in-Some-clause-distinct
 returns-in-Some-clause-distinct g c = invariant_of-self g c
 
-pub returns-in-Err-clause-refuses_new : goal.returns-in-Err-clause-refuses_new
-returns-in-Err-clause-refuses_new g c = sym (lookup_nowhere g.K.PartialEq.eq _ _ c.in_default.ensures)
+pub returns-then-is_err-clause-refuses_new : goal.returns-then-is_err-clause-refuses_new
+returns-then-is_err-clause-refuses_new g c = sym (lookup_nowhere g.K.PartialEq.eq _ _ c.in_default.ensures)
 
-pub returns-in-Err-clause-known : goal.returns-in-Err-clause-known
-returns-in-Err-clause-known g c =
+pub returns-then-is_err-clause-known : goal.returns-then-is_err-clause-known
+returns-then-is_err-clause-known g c =
     let absent : None ≡ value_at g.K.PartialEq.eq c.args.self.now c.args.k = lookup_nowhere g.K.PartialEq.eq _ _ c.in_default.ensures in
     rw (← absent) (λ h. h)
 
 pub invariant_of-self-2 : goal.invariant_of-self-2
 invariant_of-self-2 g c =
     let absent = lookup_nowhere g.K.PartialEq.eq _ _ c.in_default.ensures in
-    rw (c.in_default-push.ensures.items, c.self.view_is) (distinct_new g.K.PartialEq.eq _ _ absent _ g.met.K.Eq.laws (rw c.self.view_is at c.self.invariant))
+    rw (c.push_reserved.ensures.items, c.reserve.ensures.items, c.self.view_is) (distinct_new g.K.PartialEq.eq _ _ absent _ g.met.K.Eq.laws (rw c.self.view_is at c.self.invariant))
 
 pub returns-clause-old : goal.returns-clause-old
 returns-clause-old g c = lookup_nowhere g.K.PartialEq.eq _ _ c.in_default.ensures
 
 pub returns-clause-put : goal.returns-clause-put
 returns-clause-put g c =
-    rw (c.in_default-push.ensures.items, c.self.view_is) (sym (put_new g.K.PartialEq.eq _ _ (lookup_nowhere g.K.PartialEq.eq _ _ c.in_default.ensures) _))
+    rw (c.push_reserved.ensures.items, c.reserve.ensures.items, c.self.view_is) (sym (put_new g.K.PartialEq.eq _ _ (lookup_nowhere g.K.PartialEq.eq _ _ c.in_default.ensures) _))
 
 pub returns-clause-known_keys : goal.returns-clause-known_keys
 returns-clause-known_keys g c =
