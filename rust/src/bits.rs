@@ -25,9 +25,8 @@ pub mod proved;
 #[must_use]
 #[track_caller]
 pub const fn log2_strict_usize(n: usize) -> usize {
-    // From this check the compiler learns what `1 << log2_strict_usize(n)` is. Rust 1.85 does not learn it from
-    // `n.is_power_of_two()`. If `n` is 0, the shift by 64 is a shift by 0. It gives 1, which is not `n`.
-    assert!(1_usize.wrapping_shl(n.trailing_zeros()) == n, "Not a power of two");
+    // From `n.is_power_of_two()`, the compiler would not learn that `n` is not 0, and would make code for the logarithm of 0.
+    assert!(n != 0 && n & (n - 1) == 0, "Not a power of two");
     proved::log2_strict_usize(n)
 }
 
