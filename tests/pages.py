@@ -1,14 +1,11 @@
 """For tests/agree: compares the pages with the code. It checks the functions that blocks of Rust quote, the clauses that
-MODEL names, the numbers in ARCHITECTURE's table, and each link, file and name. It also looks for each public function in the
-tests, in MODEL and in the callers, for the comment and the source of each definition, and for the files that comments of specs
-and proofs name."""
+MODEL names, and each link, file and name. It also looks for each public function in the tests, in MODEL and in the callers."""
 import functools
-import itertools
 import os
 import re
 import subprocess
 
-from rattle_source import DEFINITION, comment_above, declarations, functions
+from rattle_source import declarations, functions
 from rattle_source import read as read_source
 
 # Names from std, the original, the kit and the system that pages mention and that no source has.
@@ -19,9 +16,6 @@ OUTSIDE = set("""
 """.split())
 # These pages mention names that the repository does not have, or no longer has, so their names are not looked up.
 ELSEWHERE = {"rust/CHANGELOG.md", "docs/TRIED.md", "docs/DIFFERENCES.md"}
-LIBRARIES = "crates/p3_util(_kernels|_c|_run)?/"
-TABLE_IS_ABOUT = "rust/|" + LIBRARIES
-TABLE_ROW = r"^\| (`[A-Z_`, ]+`) \| ([\d, ^+]+) \| `([^`]+)` \|.*$"
 # Where CONTRIBUTING says that a public function of the kernels or of p3_util goes, and those that do not belong there, such as
 # forms for holders, preconditions, and what the package does not have.
 FORMS = r"\w+_(?:on|counted|short|long)|fits_\w+|"
@@ -29,7 +23,6 @@ PROVED = r"is_power_of_three|butterfly_\w+|flat_len|as_base_slice(?:_mut)?|\w+_(
 SMALL = r"|indices_arr|branch_hint|assert_clone|pretty_name"
 WHERE = {
     "crates/p3_util/src/lib.rt": r"\w*transpose\w*|fits_(?:matrix|square)|butterfly_\w+|(?:de)?serialize",
-    "crates/p3_util_callers/src/": r"log2_ceil_u64|butterfly_\w+" + SMALL,
     "crates/p3_util_vectors/src/": "transpose_square_counted",
     "crates/p3_util_c/src/": FORMS + PROVED + r"|log2_ceil_u64|checked_\w+|reverse_bits|\w+_chunks\w*|zip_eq" + SMALL,
     "rust/src/lib.rs": PROVED,
@@ -91,15 +84,6 @@ def check_quotations():
                     yield place(page, block.start(), f"{name.group(1)} is not as in the sources")
 
 
-def check_edits():
-    """A block with the lines of a must-fail edit is the whole text of an edit."""
-    edits = [read(path) for path in tracked if path.endswith(".edit")]
-    for page, text in pages.items():
-        for block in re.finditer(r"^```text\n(.*?)^```", text, re.M | re.S):
-            if re.search("^file: .*\nold: ", block[1], re.M) and block[1] not in edits:
-                yield place(page, block.start(), "no edit of must-fail/ has this text")
-
-
 def check_clauses():
     """The clauses that a row of MODEL names in parentheses are clauses of the calls that the row names."""
     page, labels = "docs/MODEL.md", {}
@@ -112,47 +96,6 @@ def check_clauses():
             yield place(page, row.start(), f"no source has a call {call}")
         for label in sorted(named - {label for call in calls for label in labels.get(call, ())}):
             yield place(page, row.start(), f"no call of {', '.join(calls) or 'no name'} has a clause {label}")
-
-
-def number(text):
-    """The value of a number or of an expression, in Rust or on a page, or None if the text is neither."""
-    text = text.replace("_", "").replace("^", "**")
-    return eval(text) if re.fullmatch(r"[\d ()<*+-]+", text) else None
-
-
-def constants():
-    """For each constant of the sources, the package and its overlay: its name, file and value, or None if the value is not
-    known. Where it depends on `cfg!`, this is the one without that, so not the one for tests or for aarch64. Constants that
-    are not numbers, and those that depend on a type, are left out. So are those that a trait declares."""
-    found = []
-    declared = {name for text in sources.values() for name in re.findall(r"^ +const ([A-Z_]+): \w+;", text, re.M)}
-    for path in tracked:
-        if path in sources or re.fullmatch(r"rust/(overlay/)?src/(slices/(holders/)?)?\w+\.rs", path):
-            for space, name, value in re.findall(r"^( *)(?:pub(?:\(\w+\))? )?const ([A-Z_]+): (?!bool)\w+ = ([^;]+);", read(path), re.M):
-                if "size_of" not in value and not (space and name in declared):
-                    found.append((name, path, re.sub(r"if cfg!\(.*?\) \{.*?\} else \{(.*?)\}", r"(\1)", value)))
-    values = {name: value for name, _, value in found}
-    for name, path, value in found:
-        yield name, path, number(re.sub(r"[A-Z_]{2,}", lambda other: values.get(other[0], other[0]), value))
-
-
-def check_constants():
-    """ARCHITECTURE's table has each constant of the kernels, the exports, the program, the package and its overlay,
-    with its file and its value."""
-    page, known, listed = "docs/ARCHITECTURE.md", list(constants()), set()
-    for row in re.finditer(TABLE_ROW, pages[page], re.M):
-        names, values = re.findall(r"\w+", row.group(1)), row.group(2).split(", ")
-        for name, value in itertools.zip_longest(names, values):
-            found = [(path, there) for other, path, there in known if other == name and path.endswith(row.group(3))]
-            listed.update((name, path) for path, _ in found)
-            if [there for _, there in found] != [number(value or "")]:
-                yield place(page, row.start(), f"{name} is {value} in {row.group(3)}, and the code has "
-                            + (", ".join(f"{there} in {path}" for path, there in found) or "no such constant there"))
-    for name, path, value in known:
-        if value is None:
-            yield f"{path}: tests/pages.py does not know the value of {name}"
-        if re.match(TABLE_IS_ABOUT, path) and (name, path) not in listed:
-            yield f"{page}: its table has no row for {name}, which is {value} in {path}"
 
 
 def anchors(page):
@@ -211,9 +154,10 @@ def words(pattern):
 
 def check_functions():
     """Each public function is in a test of p3_util_vectors or of the package. If it promises anything, MODEL has it, or the
-    type that it is a method of. If it has a precondition, a proved caller has it. If it is no method, it is where WHERE says."""
+    type that it is a method of. If it has a precondition, a proved caller or test has it. If it is no method, it is where WHERE
+    says."""
     tests = words(r"crates/p3_util_vectors/src/|rust/(tests|src/.*tests)|tests/unproved/")
-    callers, model = words(r"crates/p3_util_callers/src/"), words(r"docs/MODEL\.md")
+    callers, model = words(r"crates/p3_util_(callers|vectors|transform)/src/"), words(r"docs/MODEL\.md")
     for path, owner, function in public_functions():
         kinds, name = {title.split(" ")[0] for title, _ in function.clauses}, function.name()
         if name not in tests:
@@ -221,39 +165,13 @@ def check_functions():
         if "ensures" in kinds and not {name, owner} & model:
             yield f"{path}: docs/MODEL.md does not say what {name} promises"
         if "requires" in kinds and name not in callers:
-            yield f"{path}: no caller in crates/p3_util_callers has {name}, which has a precondition"
+            yield f"{path}: no proved caller or test has {name}, which has a precondition"
         for where in (where for where, others in WHERE.items() if not owner and not re.fullmatch(others, name)):
             if name not in words(where):
                 yield f"{where} has no {name}, which is in {path}. See CONTRIBUTING's table, and WHERE in tests/pages.py"
 
 
-def check_specs():
-    """Each definition in specs/ has a comment above it. In a library, this comment or the file's first lines name the source of
-    a definition, unless these lines say that the file serves private contracts."""
-    for path in (path for path in tracked if re.fullmatch(r"crates/\w+/specs/[\w/]+\.antt", path)):
-        text = read(path)
-        head = re.match(r"(?:--.*\n)*", text)[0]
-        says_private = "private" in head
-        for found in DEFINITION.finditer(text):
-            above = comment_above(text, found)
-            wants_source = not says_private and re.match(LIBRARIES, path)
-            if not above or wants_source and "Source: " not in head + above:
-                yield f"{path}:{text.count(chr(10), 0, found.end()) + 1}: {found[2]} has no comment, or no sentence 'Source: ..'"
-
-
-def check_paths_in_comments():
-    """A file or folder that a comment in specs/ or proofs/ names in backquotes is in that crate, or has this path from the
-    top of the repository."""
-    for path in (path for path in tracked if path.endswith(".antt")):
-        crate = "/".join(path.split("/")[:2])
-        text = re.sub("^ *-- ?", lambda mark: " " * len(mark[0]), read(path), flags=re.M)
-        for named in re.finditer(r"`([\w.-]+(?:/[\w.-]+)+/?)`", text):
-            if not any(os.path.exists(os.path.join(folder, named[1])) for folder in (crate, ".")):
-                yield f"{path}:{text.count(chr(10), 0, named.start()) + 1}: no file {named[1]}"
-
-
 def wrong():
     """A line for each thing that is wrong."""
-    for check in (check_quotations, check_edits, check_clauses, check_constants, check_links_and_names,
-                  check_functions, check_specs, check_paths_in_comments):
+    for check in (check_quotations, check_clauses, check_links_and_names, check_functions):
         yield from check()

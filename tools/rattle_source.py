@@ -193,15 +193,6 @@ def statements(text, named=None, indent=""):
             yield from (line for line in block.rstrip().splitlines() if not re.match(r" *(--|$)", line))
 
 
-DEFINITION = re.compile(r"^( *)(?:(?:abbrev|unfoldable) pub|pub (?:record|data)) (\w+)", re.M)
-
-
-def comment_above(text, found):
-    """The comment right above a definition that DEFINITION found in a text, in one line."""
-    lines = re.search(rf"((?:^{found[1]}--.*\n)*)\Z", text[:found.start()], re.M)[0].splitlines()
-    return " ".join(line.strip().removeprefix("--").strip() for line in lines)
-
-
 def function_at(text, number):
     """The last function that begins at or above the line of this number. An attribute belongs to the function below it."""
     lines = text.split("\n")
