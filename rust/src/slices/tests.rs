@@ -38,11 +38,6 @@ pub(super) const fn side_by_size(size: usize) -> usize {
     side_of(size, USES_REGISTERS, cfg!(target_arch = "x86_64"))
 }
 
-/// `i`, which has `digits` binary digits, with the digits in reversed order.
-pub(super) fn reversed(digits: usize, i: usize) -> usize {
-    (0..digits).fold(0, |rev, place| rev << 1 | i >> place & 1)
-}
-
 /// The index in a matrix of `width` columns and `height` rows of the item that its transpose has at `place`.
 pub(super) fn transposed(width: usize, height: usize, place: usize) -> usize {
     place % height * width + place / height
@@ -415,58 +410,6 @@ fn puts_and_reads() {
     SliceItems::new(&mut list).put(2, 7);
     assert_eq!(SliceSource::new(&list).at(2), 7);
     assert_eq!(list, [0, 1, 7]);
-}
-
-/// Puts a block with this number of rows, of items that `item` makes, and checks every cell. The rows of the block are
-/// three items apart in the source, and its columns two cells apart in the list.
-fn puts_block_of<T: Copy + PartialEq, H: for<'a> Hold<'a, T, Holder: Cells<Item = T>>>(
-    side: usize,
-    item: impl Fn(u8) -> T,
-) {
-    let block = Block {
-        rows: side,
-        cols: side,
-        from: 5,
-        width: side + 3,
-        to: 7,
-        height: side + 2,
-    };
-    let source: Vec<T> = (1..=100).map(&item).collect();
-    let mut cells = std::vec![item(0); 100];
-    H::hold(&mut cells).put_block(&SliceSource::new(&source), block);
-    let mut wanted = std::vec![item(0); 100];
-    for (r, c) in (0..side).flat_map(|r| (0..side).map(move |c| (r, c))) {
-        wanted[7 + c * (side + 2) + r] = source[5 + r * (side + 3) + c];
-    }
-    assert!(cells == wanted, "a side of {side}");
-}
-
-fn puts_block<T: Copy + PartialEq + 'static>(side: usize, item: impl Fn(u8) -> T) {
-    of_each_holder!(T, Holder => puts_block_of::<T, Holder>(side, &item));
-}
-
-#[test]
-fn blocks() {
-    static NUMBERS: [u8; 101] = {
-        let mut numbers = [0; 101];
-        let mut i = 0;
-        while i < numbers.len() {
-            numbers[i] = i as u8;
-            i += 1;
-        }
-        numbers
-    };
-    for side in 0..=8 {
-        puts_block(side, |i| i);
-        puts_block(side, |i| [i, 255 - i]);
-        puts_block(side, |i| [i, i ^ 129, i ^ 170, i ^ 219]);
-        puts_block(side, |i| [0, 7, 30, 71, 129, 170, 193, 219].map(|part| i ^ part));
-        puts_block(side, u128::from);
-        // Some of these items have bytes that are never written, and some are references.
-        puts_block(side, |i| (i, u16::from(i) << 4));
-        puts_block(side, |i| (i, u32::from(i) << 9));
-        puts_block(side, |i| &NUMBERS[usize::from(i)]);
-    }
 }
 
 /// A list that begins where a cache line does.

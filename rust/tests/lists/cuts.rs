@@ -1,4 +1,4 @@
-//! How a call is cut: into how many parts, of which shapes, and how many parts are left while they are taken.
+//! How a call is cut: into how many parts, and of which shapes.
 
 use p3_util_proved::parts::*;
 use p3_util_proved::reverse_slice_row_index_bits;
@@ -33,17 +33,24 @@ fn parts_of_transposes() {
     }
 }
 
-/// The parts of a reversal say how many of them are left, both before the first part is taken and after each part.
+/// The same for a reversal: its squares are cut into patches, those on a diagonal and those on one side of it. With the feature
+/// `checked` every list is one part.
 #[test]
-fn parts_that_are_left() {
-    for (bits, asked) in [(4, 3), (18, 4), (19, 1), (19, 9), (20, 16)] {
-        let mut list = vec![0u8; 1 << bits];
-        let mut parts = reversal(&mut list, asked);
-        for left in (0..parts.len()).rev() {
-            assert!(parts.next().is_some());
-            assert_eq!((parts.len(), parts.size_hint()), (left, (left, Some(left))));
-        }
-        assert!(parts.next().is_none() && parts.next().is_none());
+fn parts_of_reversals() {
+    let cases = [
+        (20, 1, 0, 1),
+        (20, 1, 2, 6),
+        (20, 1, 16, 36),
+        (20, 1, 64, 136),
+        (21, 1, 16, 72),
+        (10, 300, 16, 36),
+        (12, 100, 64, 136),
+    ];
+    for (digits, row_width, asked, wanted) in cases {
+        let mut list = vec![0u8; row_width << digits];
+        let wanted = if cfg!(feature = "checked") { 1 } else { wanted };
+        let count = row_reversal(&mut list, row_width, asked).len();
+        assert_eq!(count, wanted, "2^{digits} rows of {row_width} if {asked} are asked for");
     }
 }
 

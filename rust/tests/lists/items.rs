@@ -238,38 +238,6 @@ fn rows_of_items_that_stay_on_their_thread() {
     );
 }
 
-/// A list that lies `START` bytes after an address that is a multiple of 8.
-#[repr(C, align(8))]
-struct Behind<const START: usize> {
-    _before: [u8; START],
-    items: [[u8; 8]; 256],
-}
-
-fn check_address<const START: usize>() {
-    let numbered = || Behind {
-        _before: [0; START],
-        items: array::from_fn(|i| (i as u64 * 0x0001_0203_0405_0607).to_ne_bytes()),
-    };
-    let (before, mut moved, mut output) = (numbered(), numbered(), numbered());
-    assert_eq!(moved.items.as_ptr().addr() % 8, START);
-    reverse_slice_index_bits(&mut moved.items);
-    assert!((0..256).all(|i| moved.items[i] == before.items[reversed(8, i)]));
-    transpose(&before.items[..240], &mut output.items[..240], 24, 10);
-    assert!((0..240).all(|i| output.items[i] == before.items[transposed(24, 10, i)]));
-}
-
-#[test]
-fn lists_at_odd_addresses() {
-    check_address::<0>();
-    check_address::<1>();
-    check_address::<2>();
-    check_address::<3>();
-    check_address::<4>();
-    check_address::<5>();
-    check_address::<6>();
-    check_address::<7>();
-}
-
 #[test]
 #[cfg(target_pointer_width = "64")]
 fn items_without_bytes() {

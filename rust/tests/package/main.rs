@@ -4,7 +4,6 @@
 #![allow(clippy::type_complexity, reason = "tables of cases")]
 #![allow(clippy::unnecessary_cast, reason = "on a system of 32 bits, an index is a `u64`")]
 
-mod answers;
 mod common;
 mod iterators;
 mod map;

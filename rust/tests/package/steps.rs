@@ -1,11 +1,11 @@
-//! The order and the number of exchanges, with holders written for the tests.
+//! The number of exchanges, with holders written for the tests.
 
 use p3_util_proved::kernels::Index;
 use p3_util_proved::kernels::places::{Places, Swaps};
 use p3_util_proved::kernels::reverse::*;
 use p3_util_proved::kernels::transpose::*;
 
-use crate::common::{reversed, transposed};
+use crate::common::reversed;
 use crate::noted::Noted;
 
 /// The numbers below `len` after a call on a counter over them. The counter counts each exchange.
@@ -85,124 +85,6 @@ fn a_count_goes_on_from_the_one_before() {
     reverse_index_bits_on(&mut swaps);
     reverse_row_index_bits_on(&mut swaps, 4);
     assert_eq!(swaps.swaps(), 28 + 4 * 6);
-}
-
-/// The pairs of the square of 2^`half` rows and columns, in order, each as its row and its column. The square is made of
-/// quadrants: the upper left one, the upper right one, and then the lower right one, down to squares of 8 rows. These,
-/// and the upper right quadrants of up to 64 rows, go row after row. If `by_tiles` is true, such quadrants go tile by
-/// tile, and the tiles column after column. Larger quadrants are made of quadrants, column after column.
-fn pairs_in_order(half: u32, by_tiles: bool) -> Vec<(usize, usize)> {
-    fn square(start: usize, size: usize, by_tiles: bool, pairs: &mut Vec<(usize, usize)>) {
-        let end = start + size;
-        if size <= 8 {
-            return pairs.extend((start..end).flat_map(|row| (row + 1..end).map(move |col| (row, col))));
-        }
-        square(start, size / 2, by_tiles, pairs);
-        quadrant(start, start + size / 2, size / 2, by_tiles, pairs);
-        square(start + size / 2, size / 2, by_tiles, pairs);
-    }
-    fn quadrant(row: usize, col: usize, size: usize, by_tiles: bool, pairs: &mut Vec<(usize, usize)>) {
-        if size <= 64 {
-            let side = if by_tiles { 8 } else { size };
-            let tiles = (0..size)
-                .step_by(side)
-                .flat_map(|c| (0..size).step_by(side).map(move |r| (row + r, col + c)));
-            pairs.extend(tiles.flat_map(|(row, col)| {
-                (row..row + side).flat_map(move |row| (col..col + side).map(move |col| (row, col)))
-            }));
-        } else {
-            for (c, r) in [(0, 0), (0, size / 2), (size / 2, 0), (size / 2, size / 2)] {
-                quadrant(row + r, col + c, size / 2, by_tiles, pairs);
-            }
-        }
-    }
-    let mut pairs = vec![];
-    square(0, 1 << half, by_tiles, &mut pairs);
-    pairs
-}
-
-/// The exchanges of 2^`bits` rows of `width` items, in order. Two rows are exchanged item by item. The rows whose indices
-/// have the same middle digit form a square: the row of `x` and `y` has the reverse of `x` in its high digits, and `y` in
-/// its low digits.
-fn short_order(bits: u32, width: usize) -> Vec<(usize, usize)> {
-    let (half, low) = (bits / 2, bits - bits / 2);
-    let row = |middle: usize, x: usize, y: usize| (reversed(half, x) << low) + (middle << half) + y;
-    let pairs = pairs_in_order(half, width == 1);
-    (0..1 << (low - half))
-        .flat_map(|middle| {
-            pairs
-                .iter()
-                .map(move |(x, y)| (row(middle, *x, *y), row(middle, *y, *x)))
-        })
-        .flat_map(|(first, second)| (0..width).map(move |place| (first * width + place, second * width + place)))
-        .collect()
-}
-
-/// A body that exchanges the pairs in another order meets its contract, but fails this test.
-#[test]
-fn short_path_in_order() {
-    for bits in 0..=16 {
-        let noted = swapped(1 << bits, reverse_index_bits_short);
-        assert!(noted.exchanges == short_order(bits, 1), "2^{bits}");
-        assert_eq!(swapped(1 << bits, |m| reverse_row_index_bits_on(m, 1)), noted);
-        if bits <= 13 {
-            assert_eq!(swapped(1 << bits, reverse_index_bits_on), noted);
-            for width in [2, 3] {
-                let rows = swapped(width << bits, |m| reverse_row_index_bits_on(m, width as Index));
-                assert!(rows.exchanges == short_order(bits, width), "2^{bits} rows of {width}");
-            }
-        }
-    }
-}
-
-/// The exchanges of a square of 2^`log_side` rows that begins at `base`.
-fn square_order(base: usize, log_stride: usize, log_side: u32) -> Vec<(usize, usize)> {
-    let place = |row: usize, col: usize| base + (row << log_stride) + col;
-    let pairs = pairs_in_order(log_side, true);
-    pairs
-        .into_iter()
-        .map(|(row, col)| (place(row, col), place(col, row)))
-        .collect()
-}
-
-/// A body that transposes a square in another order meets its contract, but fails this test.
-#[test]
-fn squares_in_order() {
-    for log_side in 0..=10 {
-        let side = 1 << log_side;
-        let noted = swapped(side * side, |m| {
-            transpose_square_on(m, 0, log_side as Index, log_side as Index)
-        });
-        assert!(
-            noted.exchanges == square_order(0, log_side, log_side as u32),
-            "a side of {side}"
-        );
-        let wanted = (0..side * side).map(|place| transposed(side, side, place) as u64);
-        assert!(noted.items.into_iter().eq(wanted), "a side of {side}");
-        assert_eq!(noted.exchanges.len(), side * (side - 1) / 2);
-    }
-}
-
-/// The number of a chunk has half of the digits, rounded down. The chunks are exchanged as rows, then the items of one
-/// square or of two adjacent squares, and then the chunks again. A body with another order of these passes meets its
-/// contract, but fails this test.
-#[test]
-fn long_path_in_order() {
-    for bits in [14, 15] {
-        let (count, size) = (bits / 2, bits - bits / 2);
-        let chunks = short_order(count, 1 << size);
-        let squares = (0..1 << (size - count)).flat_map(|square| square_order(square << count, size as usize, count));
-        let wanted: Vec<_> = chunks
-            .iter()
-            .copied()
-            .chain(squares)
-            .chain(chunks.iter().copied())
-            .collect();
-        assert!(
-            swapped(1 << bits, reverse_index_bits_on).exchanges == wanted,
-            "2^{bits}"
-        );
-    }
 }
 
 #[test]

@@ -6,38 +6,8 @@ use p3_util_proved::linear_map::LinearMap;
 use p3_util_proved::zip_eq::zip_eq;
 use p3_util_proved::*;
 
-use crate::answers::LOGARITHMS;
-#[cfg(target_pointer_width = "64")]
-use crate::answers::{POWERS, REVERSED_BELOW_POWERS, REVERSED_DIGITS, SUMS};
 use crate::common::reversed;
 use crate::refusal::panics;
-
-#[test]
-fn originals_answers() {
-    for (n, ceil, floor) in LOGARITHMS {
-        if let Ok(n) = usize::try_from(*n) {
-            assert_eq!((log2_ceil_usize(n), log2_floor_usize(n)), (*ceil, *floor), "{n}");
-        }
-        assert_eq!(log2_ceil_u64(*n), *ceil as u64, "{n}");
-    }
-}
-
-#[test]
-#[cfg(target_pointer_width = "64")]
-fn originals_answers_of_64_bits() {
-    for (exponent, wanted) in POWERS {
-        assert_eq!(checked_pow2(*exponent), *wanted, "{exponent}");
-    }
-    for (a, b, wanted) in SUMS {
-        assert_eq!(checked_log_size_sum(*a, *b), *wanted, "{a} {b}");
-    }
-    for (x, n, wanted) in REVERSED_BELOW_POWERS {
-        assert_eq!(reverse_bits(*x, *n), *wanted, "{x} {n}");
-    }
-    for (x, bit_len, wanted) in REVERSED_DIGITS {
-        assert_eq!(reverse_bits_len(*x, *bit_len), *wanted, "{x} {bit_len}");
-    }
-}
 
 /// The powers of two and of three, their neighbours, and the numbers up to 9.
 fn powers_and_neighbours() -> impl Iterator<Item = usize> {
@@ -70,6 +40,17 @@ fn powers_and_their_neighbours() {
                 "{n} {bits}"
             );
         }
+    }
+}
+
+#[test]
+fn powers_that_fit() {
+    let power = |exponent: usize| 1_usize.checked_shl(exponent.try_into().ok()?);
+    let exponents = || (0..70).chain([usize::MAX - 1, usize::MAX]);
+    for (a, b) in exponents().flat_map(|a| exponents().map(move |b| (a, b))) {
+        assert_eq!(checked_pow2(a), power(a), "{a}");
+        let wanted = a.checked_add(b).and_then(|sum| Some((sum, power(sum)?)));
+        assert_eq!(checked_log_size_sum(a, b), wanted, "{a} {b}");
     }
 }
 

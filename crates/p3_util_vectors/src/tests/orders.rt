@@ -1,5 +1,5 @@
-//! The order of exchanges and of writes in cases that show which path was taken. The package tests
-//! all other orders.
+//! The order of exchanges and of writes in cases that show which path was taken. No test looks at
+//! other orders.
 
 use crate::noted::Noted;
 use crate::tests::calls::{Call, Put, count_swaps, count_writes};

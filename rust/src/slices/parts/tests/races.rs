@@ -7,7 +7,12 @@ use std::thread::scope;
 use std::vec::Vec;
 
 use super::super::*;
-use crate::slices::tests::{reversed, transposed};
+use crate::slices::tests::transposed;
+
+/// `i`, which has `digits` binary digits, with the digits in reversed order.
+fn reversed(digits: usize, i: usize) -> usize {
+    (0..digits).fold(0, |rev, place| rev << 1 | i >> place & 1)
+}
 
 /// Runs each share on its own thread.
 fn run_all<P: Send>(shares: impl IntoIterator<Item = Vec<P>>, run: fn(P)) {
