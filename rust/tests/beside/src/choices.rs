@@ -1,49 +1,24 @@
-//! Inputs are made from choices, each a number. If a number gets smaller, so does the input. So every kind of input is
-//! shrunk in the same way.
+//! Inputs are made from choices, each a random number.
 
-/// The choices of one input, and where they come from: a generator of random numbers, or an earlier input.
+/// The choices of one input.
 pub struct Choices {
-    random: Option<Random>,
-    given: Vec<u64>,
-    made: Vec<u64>,
+    random: Random,
 }
 
 impl Choices {
     /// Random choices, always the same for an input with this number.
-    pub fn random(seed: u64, input: u64) -> Self {
+    pub fn new(seed: u64, input: u64) -> Self {
         Choices {
-            random: Some(Random::new(Random::new(seed).next() ^ input)),
-            given: vec![],
-            made: vec![],
+            random: Random::new(Random::new(seed).next() ^ input),
         }
-    }
-
-    /// The choices of an earlier input, followed by zeros.
-    pub fn again(given: &[u64]) -> Self {
-        Choices {
-            random: None,
-            given: given.to_vec(),
-            made: vec![],
-        }
-    }
-
-    /// The choices that were made so far.
-    pub fn made(self) -> Vec<u64> {
-        self.made
     }
 
     /// Any number below `end`.
     pub fn below(&mut self, end: usize) -> usize {
-        let number = match &mut self.random {
-            Some(random) => random.next(),
-            None => self.given.get(self.made.len()).copied().unwrap_or(0),
-        };
-        let number = number % end as u64;
-        self.made.push(number);
-        number as usize
+        (self.random.next() % end as u64) as usize
     }
 
-    /// Whether one of `times` equal chances came up. A smaller choice is a no.
+    /// Whether one of `times` equal chances came up.
     pub fn once_in(&mut self, times: usize) -> bool {
         self.below(times) == times - 1
     }
@@ -75,39 +50,4 @@ impl Random {
         let mixed = (mixed ^ (mixed >> 27)).wrapping_mul(0x94d0_49bb_1331_11eb);
         mixed ^ (mixed >> 31)
     }
-}
-
-/// Shrinks the choices as long as `holds` holds of them: leaves some out, and makes others smaller. The first one, which
-/// is the kind of the input, stays.
-pub fn shrunk(mut choices: Vec<u64>, holds: impl Fn(&[u64]) -> bool) -> Vec<u64> {
-    loop {
-        let before = choices.clone();
-        for at in (1..before.len()).rev() {
-            if let Some(found) = smaller(&choices, at)
-                .into_iter()
-                .find(|other| *other != choices && holds(other))
-            {
-                choices = found;
-            }
-        }
-        if choices == before {
-            return choices;
-        }
-    }
-}
-
-/// Choices that are smaller at one place.
-fn smaller(choices: &[u64], at: usize) -> Vec<Vec<u64>> {
-    let Some(&number) = choices.get(at) else {
-        return vec![];
-    };
-    let put = |number| [&choices[..at], &[number], &choices[at + 1..]].concat();
-    let mut found = vec![
-        choices[..at].to_vec(),
-        [&choices[..at], &choices[at + 1..]].concat(),
-        put(0),
-    ];
-    found.extend((1..=number.checked_ilog2().unwrap_or(0)).map(|digits| put(number - (number >> digits))));
-    found.push(put(number.saturating_sub(1)));
-    found
 }

@@ -12,7 +12,7 @@ mod words;
 use std::process::ExitCode;
 
 use answer::Compared;
-use choices::{Choices, shrunk};
+use choices::Choices;
 
 /// Makes an input from the choices.
 type Kind = fn(&mut Choices) -> Compared;
@@ -35,17 +35,13 @@ fn main() -> ExitCode {
         return ExitCode::from(2);
     };
     for input in 0..inputs {
-        let mut choices = Choices::random(seed, input);
-        let compared = compared(&mut choices);
+        let compared = compared(&mut Choices::new(seed, input));
         // Before a call that may end the process.
         if words.len() > 2 {
             println!("  input {input} of seed {seed}: {}", compared.call);
         }
-        if compared.difference().is_some() {
-            println!(
-                "Input {input} of seed {seed} differs. Of the inputs that were tried instead, this is the smallest that does:"
-            );
-            println!("{}", smallest(choices.made()));
+        if let Some(difference) = compared.difference() {
+            println!("Input {input} of seed {seed} differs:\n{difference}");
             return ExitCode::FAILURE;
         }
     }
@@ -62,10 +58,4 @@ fn compared(choices: &mut Choices) -> Compared {
         }
     }
     unreachable!("the shares of all kinds add up to 16")
-}
-
-/// The difference that is left when the choices are as small as they get.
-fn smallest(choices: Vec<u64>) -> String {
-    let difference = |choices: &[u64]| compared(&mut Choices::again(choices)).difference();
-    difference(&shrunk(choices, |choices| difference(choices).is_some())).expect("shrinking keeps the difference")
 }
