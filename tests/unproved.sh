@@ -10,19 +10,16 @@
 # tests/unproved, whose tests are run alone.
 #
 # With --refused it refuses each request for memory in turn: of the requests of each test in a module `growth`, the first is
-# refused, then in another run the second, and so on. These tests count their requests and the memory they hold themselves. A
-# body that meets its contract fails here if it makes no request and does nothing, or forgets values that make no whole rows.
+# refused, then in another run the second, and so on. These tests count their requests and the memory they hold themselves.
 . "$(dirname "$0")/harness.bash"
 cd "$(dirname "$0")/.."
 copy=$room/copy
 
 if [[ ${1-} = --refused ]]; then
-    for folder in src p3_util_transform; do
-        # The largest number of requests that a test makes.
-        most=$(grep -rhoE 'makes_requests\w*\(&rt, [0-9]+' "tests/unproved/$folder" | grep -oE '[0-9]+$' | sort -n | tail -n 1)
-        for ((n = 1; n <= most; n++)); do
-            UNPROVED=$folder says "tests/unproved/$folder, request $n refused" 'growth::' tests/unproved.sh --fail-alloc "$n" -- growth::
-        done
+    # The largest number of requests that a test makes.
+    most=$(grep -hoE 'makes_requests\w*\(&rt, [0-9]+' tests/unproved/src/growth.rt.in | grep -oE '[0-9]+$' | sort -n | tail -n 1)
+    for ((n = 1; n <= most; n++)); do
+        UNPROVED=src says "request $n refused" 'growth::' tests/unproved.sh --fail-alloc "$n" -- growth::
     done
     exit
 fi
@@ -55,8 +52,7 @@ tests_of() {
         cp "$2/$file" "$src/${file%.in}"
     done
     [[ $3 = lib.rt.in ]] || printf '\n#[cfg(test)]\nmod tests;\n' >>"$src/$3"
-    [[ $3 = main.rt ]] || cp -a tests/unproved/c "$copy/crates/$1/"
-    [[ $3 != lib.rt ]] || cp tests/unproved/src/memory.rt.in "$src/tests/memory.rt"
+    [[ $3 != lib.rt.in ]] || cp -a tests/unproved/c "$copy/crates/$1/"
     written=$(find "$2" -name '*.rt.in' -exec cat {} + | grep -c '^#\[test\]$')
     (cd "$copy/crates/$1" && rt try --test "${@:4}") | tee "$copy/printed"
     grep -qx "tests: $written" "$copy/printed" || { echo "FAILED  $written tests are written in $2" && exit 1; }
