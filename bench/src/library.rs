@@ -1,6 +1,4 @@
 //! The calls of the static library on slices, for a program in Rust. Each returns whether its condition holds.
-//!
-//! `release/users/both.rs` includes this file too.
 
 use std::ffi::c_void;
 

@@ -54,84 +54,14 @@ fn calls_of_the_package() {
     parts::row_reversal(&mut rows, 2, 3).for_each(|part| part.run());
     assert_eq!(rows, [0, 1, 10, 11, 20, 21, 30, 31]);
     assert_eq!(reverse_counted(&mut SlicePlaces::new(&mut rows)), 2);
-    for (width, rows) in (1..=9).flat_map(|width| [1, 2, 16, 256].map(|rows| (width, rows))) {
-        let mut list: Vec<usize> = (0..width * rows).collect();
-        reverse_slice_row_index_bits(&mut list, width);
-        let wanted = (0..width * rows).map(|place| of_row(place, width, rows));
-        assert!(list.into_iter().eq(wanted), "{rows} rows of {width}");
-    }
     let mut list: Vec<u32> = (0..100 << 13).collect();
     reverse_slice_row_index_bits(&mut list, 100);
     let is_reversed = |(row, items): (u32, &[u32])| items[0] == (row.reverse_bits() >> 19) * 100 && items.is_sorted();
     assert!((0..).zip(list.chunks(100)).all(is_reversed));
 }
 
-/// Which item a list of rows has at a place after the order of its rows was reversed by index bits: the place of the item
-/// before. The number of rows is a power of two.
-#[cfg(target_pointer_width = "64")]
-fn of_row(place: usize, width: usize, rows: usize) -> usize {
-    let reversed = (0..rows.ilog2()).fold(0, |rev, bit| rev << 1 | place / width >> bit & 1);
-    reversed * width + place % width
-}
-
-/// Calls on lists that are just long enough for several threads, or not quite, of the items that `item` makes. Each call
-/// is named on the error stream, by what it does, the bytes of an item and the number of items. The stand-in for
-/// p3-maybe-rayon then prints there how many parts the call has, if it is cut.
-#[cfg(target_pointer_width = "64")]
-fn calls_around_the_thresholds() {
-    fn list<T>(call: &str, item: fn(usize) -> T, len: usize) -> Vec<T> {
-        eprintln!("call {call}/{}/{len}", size_of::<T>());
-        (0..len).map(item).collect()
-    }
-
-    /// Each place has to hold the item with the number `wanted(place)`.
-    fn check<T: PartialEq>(list: &[T], item: fn(usize) -> T, wanted: impl Fn(usize) -> usize) {
-        assert!(list.iter().enumerate().all(|(place, got)| *got == item(wanted(place))));
-    }
-
-    fn items<T: PartialEq + Send + Sync>(item: fn(usize) -> T, len: usize) {
-        let mut list = list("items", item, len);
-        reverse_slice_index_bits(&mut list);
-        check(&list, item, |place| of_row(place, 1, len));
-    }
-
-    fn rows<T: PartialEq + Send>(item: fn(usize) -> T, len: usize, width: usize) {
-        let mut list = list("rows", item, len);
-        p3_util::proved::reverse_slice_row_index_bits(&mut list, width);
-        check(&list, item, |place| of_row(place, width, len / width));
-    }
-
-    fn matrix<T: Copy + PartialEq + Send + Sync>(item: fn(usize) -> T, width: usize, height: usize) {
-        let matrix = list("transpose", item, width * height);
-        let mut output = matrix.clone();
-        transpose::transpose(&matrix, &mut output, width, height);
-        check(&output, item, |place| place % height * width + place / height);
-    }
-
-    fn byte(number: usize) -> u8 {
-        (number ^ number >> 8 ^ number >> 16) as u8
-    }
-
-    items(byte, 1 << 16);
-    items(byte, 1 << 17);
-    items(|number| number as u64, 1 << 16);
-    items(|number| number as u64, 1 << 18);
-    items(|number| [number as u64; 8], 1 << 15);
-    items(|number| [number as u64; 8], 1 << 16);
-    rows(|number| number as u32, 1 << 16, 4);
-    rows(|number| number as u32, 1 << 18, 4);
-    rows(|number| [number as u64; 8], 1 << 15, 2);
-    rows(|number| [number as u64; 8], 1 << 16, 2);
-    matrix(byte, 511, 512);
-    matrix(byte, 512, 512);
-    matrix(|number| [number as u64; 4], 513, 512);
-}
-
 #[cfg(not(target_pointer_width = "64"))]
 fn calls_of_the_package() {}
-
-#[cfg(not(target_pointer_width = "64"))]
-fn calls_around_the_thresholds() {}
 
 /// Results that the stand-in for the original never returns.
 fn right_answers() -> [bool; 15] {
@@ -172,7 +102,6 @@ fn main() {
     reverses(|i| vec![i; 5]);
     moves_long_lists();
     calls_of_the_package();
-    calls_around_the_thresholds();
     calls();
     // Only the call of branch_hint, or all of them.
     let originals = if IS_PROVED { 1 } else { 2 * 4 + 1 + 2 + 5 };
