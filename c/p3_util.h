@@ -134,13 +134,22 @@ P3_UTIL_CHECK bool p3_util_log3_strict(size_t n, size_t *exponent);
  */
 P3_UTIL_CHECK bool p3_util_reverse_bits_len(size_t x, size_t bit_len, size_t *reversed);
 
+/* Before a reference to a function. If the compiler knows `retain`, --gc-sections does not drop the reference. */
+#if defined(__has_attribute)
+#if __has_attribute(retain)
+#define P3_UTIL_KEEP __attribute__((used, retain))
+#else
+#define P3_UTIL_KEEP __attribute__((used))
+#endif
+#endif
+
 /*
  * Returns the number of the interface, which is also in the function's name. Code that includes this header refers to
  * the function, so it does not link with a library of another version.
  */
 size_t p3_util_c_interface_2_library_and_bindings_are_of_one_version(void);
-#ifdef __GNUC__
-__attribute__((used)) static size_t (*const p3_util_c_interface)(void) =
+#ifdef P3_UTIL_KEEP
+P3_UTIL_KEEP static size_t (*const p3_util_c_interface)(void) =
     p3_util_c_interface_2_library_and_bindings_are_of_one_version;
 #endif
 
