@@ -111,6 +111,7 @@ def check_links_and_names():
     """Each link leads to an existing file and heading, and each file and name in backquotes exists."""
     words = {word for path in tracked if not path.endswith((".md", ".svg", ".tsv")) and path != "tests/pages.py"
              for word in re.findall(r"\w+", read(path))} | OUTSIDE
+    words |= {os.path.basename(path)[:-len(".edit")] for path in tracked if path.endswith(".edit")}
     paths = {"/" + "/".join(path.split("/")[:k]) for path in tracked for k in range(1, path.count("/") + 2)}
     for page, text in pages.items():
         # Replaces blocks of code with blanks of the same length.
