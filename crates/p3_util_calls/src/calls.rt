@@ -8,10 +8,12 @@ ghost use Rattle.p3_util_kernels.specs.Reversal.{FitsRows, IsRowReversal};
 ghost use Rattle.p3_util_kernels.specs.SwapCounts.{row_swaps};
 ghost use Rattle.p3_util_kernels.specs.Transpose.{IsTranspose};
 
-use crate::choice::{LONG_BYTES, Limits, has_lines, row_blocks_of, side_of, strips_of};
+use crate::choice::{
+    LONG_BYTES, Limits, SHORT_COLUMN, has_lines, row_blocks_of, side_of, strips_of,
+};
 use p3_util_kernels::kernel::{
-    Blocks, Columns, InRows, LARGE_MATRIX, Matrix, Order, PutRegion, RowDigits, TINY_MATRIX, UNIT,
-    put_as_block,
+    Blocks, Columns, InRows, LARGE_MATRIX, Matrix, Order, PutRegion, RowDigits, ShortColumns,
+    TINY_MATRIX, UNIT, put_as_block,
 };
 use p3_util_kernels::places::{Cells, Places, Source};
 use p3_util_kernels::transpose::Region;
@@ -139,7 +141,9 @@ fn transpose_tiny<M: Output, R: Source<Item = M::Item> + Copy>(
     let matrix = Matrix::new(source, width, height);
     let whole = matrix.whole();
     if M::TESTS_INDICES {
-        Blocks::<4, _>(Columns).put(cells, matrix, whole)
+        Blocks::<4, _>(ShortColumns).put(cells, matrix, whole)
+    } else if height <= SHORT_COLUMN {
+        ShortColumns.put(cells, matrix, whole)
     } else {
         Columns.put(cells, matrix, whole)
     }

@@ -4,10 +4,12 @@
 
 #[cfg(target_pointer_width = "32")]
 use crate::width::Index as usize;
-use crate::kernels::choice::{LONG_BYTES, Limits, has_lines, row_blocks_of, side_of, strips_of};
+use crate::kernels::choice::{
+    LONG_BYTES, Limits, SHORT_COLUMN, has_lines, row_blocks_of, side_of, strips_of,
+};
 use crate::kernels::kernel::{
-    Blocks, Columns, InRows, LARGE_MATRIX, Matrix, Order, PutRegion, RowDigits, TINY_MATRIX, UNIT,
-    put_as_block,
+    Blocks, Columns, InRows, LARGE_MATRIX, Matrix, Order, PutRegion, RowDigits, ShortColumns,
+    TINY_MATRIX, UNIT, put_as_block,
 };
 use crate::kernels::places::{Cells, Places, Source};
 use crate::kernels::transpose::Region;
@@ -153,7 +155,9 @@ fn transpose_tiny<M: Output, R: Source<Item = M::Item> + Copy>(
     let matrix = Matrix::new(source, width, height);
     let whole = matrix.whole();
     if M::TESTS_INDICES {
-        Blocks::<4, _>(Columns).put(cells, matrix, whole)
+        Blocks::<4, _>(ShortColumns).put(cells, matrix, whole)
+    } else if height <= SHORT_COLUMN {
+        ShortColumns.put(cells, matrix, whole)
     } else {
         Columns.put(cells, matrix, whole)
     }

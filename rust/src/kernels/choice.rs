@@ -31,6 +31,10 @@ use crate::kernels::transpose::Region;
 /// An item of so many bytes is exchanged as a run of bytes, which takes hardly longer, and is put by a function of its own.
 pub(crate) const LONG_BYTES: usize = 1024;
 
+/// Where few items are put column after column, columns of at most so many items are put in one loop each. This takes fewer
+/// instructions, most of all in a build without optimization for speed.
+pub(crate) const SHORT_COLUMN: usize = 8;
+
 /// Where each index is tested, items of so many bytes are put one by one if their list has more than `ROWS_LONG_LIST` bytes.
 const ROWS_LONG_ITEM: usize = 16;
 

@@ -9,5 +9,5 @@ pub(crate) use crate::kernels::transpose::order::{LARGE_MATRIX, Order, TINY_MATR
 pub(crate) use crate::kernels::transpose::regions::Matrix;
 pub(crate) use crate::kernels::transpose::strips::{HIGH_ROWS, Strips, UNIT};
 pub(crate) use crate::kernels::transpose::ways::{
-    Blocks, Columns, InCols, InRows, Outlined, PutRegion, RowBlocks, put_as_block,
+    Blocks, Columns, InCols, InRows, Outlined, PutRegion, RowBlocks, ShortColumns, put_as_block,
 };

@@ -244,6 +244,34 @@ impl PutRegion for Columns {
     }
 }
 
+/// Puts a region column after column, each in one loop. If the columns are short, this takes fewer
+/// instructions than [`Columns`] does, most of all in a build without optimization for speed.
+#[derive(Clone, Copy)]
+#[doc(hidden)]
+pub struct ShortColumns;
+
+impl PutRegion for ShortColumns {
+    #[inline(always)]
+    fn put<M: Cells, R: Source<Item = M::Item> + Copy>(
+        self,
+        out: M,
+        matrix: Matrix<R>,
+        region: Region,
+    ) -> M {
+        if region.row_start == region.row_end {
+            // A region without rows has no item, however many columns it has.
+            return out;
+        }
+        let mut out = out;
+        for col in region.col_start..region.col_end {
+            let from = region.row_start * matrix.width + col;
+            let to = col * matrix.height + region.row_start;
+            out = put_items(out, matrix, from, to, region.rows());
+        }
+        out
+    }
+}
+
 /// Puts a column of `rows` items into consecutive cells from `to` on. The column begins at index
 /// `from` of the source. Most items are put by loops of `COLUMN_ITEMS` items, and the rest by one
 /// more loop.
