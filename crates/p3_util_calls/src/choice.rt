@@ -17,6 +17,7 @@
 //! | 1 or 2 bytes | high, by blocks of 8 by 8 | a register holds one or two rows of such a block |
 //! | 4 or 8 bytes | high, by blocks of 4 by 4. On aarch64, by blocks of 8 by 8 | a register holds a row of 4, or half a row. See [`side_of`] |
 //! | 1 KiB and more | of 16 rows, column after column, each item by a function of its own | in a build without optimization, other functions would have copies of it on the stack |
+//! | 12 bytes and more: `LONG_ITEM`, in a list of more than 512 KiB: `LONG_LIST` | low, column after column | the processor reads ahead in at most 32 rows at a time |
 //! | all others | low if 16 divides the width, otherwise high, column after column | see `Strips::by_width` |
 //!
 //! Lines are put on x86-64, and blocks where items are transposed in registers. Elsewhere these rows fit no matrix. Where each
@@ -34,10 +35,11 @@ pub(crate) const LONG_BYTES: usize = 1024;
 /// instructions, most of all in a build without optimization for speed.
 pub(crate) const SHORT_COLUMN: usize = 8;
 
-/// Where each index is tested, items of so many bytes are put one by one if their list has more than `ROWS_LONG_LIST` bytes.
-const ROWS_LONG_ITEM: usize = 16;
+/// A list of more bytes and its transpose do not fit together in a cache of 1 MiB, which is of the second level.
+const LONG_LIST: usize = 1 << 19;
 
-const ROWS_LONG_LIST: usize = 1 << 19;
+/// If an item has so many bytes, a column of a low strip fills several cache lines.
+const LONG_ITEM: usize = 12;
 
 /// Where each index is tested, a matrix with columns of so many bytes is put by blocks of 16 rows.
 const ROWS_LONG_COLUMN: usize = 1 << 9;
@@ -91,12 +93,24 @@ impl Limits {
 /// The strips of a matrix, and of the leaves of its parts. If they are put by squares, these have `SIDE` by `SIDE` items:
 /// `SIDE` is [`side_of`] these items.
 #[inline(always)]
-pub(crate) fn strips_of<const SIDE: usize>(width: usize) -> Strips<SIDE, HIGH_ROWS> {
+pub(crate) fn strips_of<const SIDE: usize>(
+    size: usize,
+    width: usize,
+    height: usize,
+) -> Strips<SIDE, HIGH_ROWS> {
     if SIDE > 1 {
         Strips::Squares
+    } else if is_long(size, width, height) {
+        Strips::Low
     } else {
         Strips::by_width(width)
     }
+}
+
+/// Whether a matrix has long items, of `size` bytes, in a long list. The list is in memory, so no product wraps.
+#[inline(always)]
+fn is_long(size: usize, width: usize, height: usize) -> bool {
+    size >= LONG_ITEM && width.wrapping_mul(height).wrapping_mul(size) > LONG_LIST
 }
 
 /// Where each index is tested, a matrix is put by blocks of several rows instead of columns and strips. The holder tests each
@@ -106,13 +120,13 @@ pub(crate) fn strips_of<const SIDE: usize>(width: usize) -> Strips<SIDE, HIGH_RO
 /// |---|---|---|
 /// | fewer than 128 items: column after column above | none: blocks of 4 rows | such a matrix has few rows |
 /// | items of 1 KiB and more: [`LONG_BYTES`] | none: strips as above | the tests take little of the time of so many bytes |
-/// | items of 16 bytes and more: `ROWS_LONG_ITEM`, more than 512 KiB: `ROWS_LONG_LIST` | none | the same |
+/// | items of 12 bytes and more: `LONG_ITEM`, more than 512 KiB: `LONG_LIST` | none | the same |
 /// | a column of 512 bytes and more: `ROWS_LONG_COLUMN` | `Sixteen` | half as many parts of a cache line of the output are stored |
 /// | all others | `Eight` | the loop needs fewer registers |
 #[inline(always)]
 pub(crate) fn row_blocks_of(size: usize, width: usize, height: usize) -> Option<RowBlocks> {
     let column = height.wrapping_mul(size);
-    if size >= ROWS_LONG_ITEM && width.wrapping_mul(column) > ROWS_LONG_LIST {
+    if is_long(size, width, height) {
         None
     } else if column >= ROWS_LONG_COLUMN {
         Some(RowBlocks::Sixteen)

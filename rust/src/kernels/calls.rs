@@ -249,7 +249,7 @@ fn put_region<M: Output, R: Source<Item = M::Item> + Copy>(
     region: Region,
     is_large: bool,
 ) -> M {
-    let (size, width) = (M::SIZE, matrix.width);
+    let (size, width, height) = (M::SIZE, matrix.width, matrix.height);
     if M::HAS_LINES && is_large && M::limits().fit(size, matrix, region, cells.address()) {
         return put_by_lines(cells, matrix, region);
     }
@@ -259,15 +259,15 @@ fn put_region<M: Output, R: Source<Item = M::Item> + Copy>(
         );
     }
     if M::TESTS_INDICES {
-        if let Some(blocks) = row_blocks_of(size, width, matrix.height) {
+        if let Some(blocks) = row_blocks_of(size, width, height) {
             return order_of(is_large, blocks).put(cells, matrix, region);
         }
     }
     // The side is a constant, so that an instance has no code for other squares.
     match M::SIDE {
-        4 => order_of(is_large, strips_of::<4>(width)).put(cells, matrix, region),
-        8 => order_of(is_large, strips_of::<8>(width)).put(cells, matrix, region),
-        _ => order_of(is_large, strips_of::<1>(width)).put(cells, matrix, region),
+        4 => order_of(is_large, strips_of::<4>(size, width, height)).put(cells, matrix, region),
+        8 => order_of(is_large, strips_of::<8>(size, width, height)).put(cells, matrix, region),
+        _ => order_of(is_large, strips_of::<1>(size, width, height)).put(cells, matrix, region),
     }
 }
 

@@ -24,19 +24,24 @@ fn fit_part(limits: Limits, size: usize, [width, height]: [usize; 2], [rows, col
 #[test]
 fn strips() {
     for width in [1, 7, 8, 16, 64, 181, 256, 512, 768, 1024, 1025] {
-        let by_width = if width % 16 == 0 { "low" } else { "high" };
-        for size in [0, 1, 2, 3, 4, 8, 12, 16, 32, 64] {
+        let of_sizes = |size| [5, 1 << 15, 1 << 17].map(|height| (size, height));
+        for (size, height) in [0, 1, 2, 3, 4, 8, 11, 12, 16, 32, 64].into_iter().flat_map(of_sizes) {
+            let is_low = width % 16 == 0 || size >= 12 && width * height * size > 524_288;
             let by_blocks = USES_REGISTERS && matches!(size, 1 | 2 | 4 | 8);
             let strips = match side_by_size(size) {
-                4 => name(strips_of::<4>(width)),
-                8 => name(strips_of::<8>(width)),
+                4 => name(strips_of::<4>(size, width, height)),
+                8 => name(strips_of::<8>(size, width, height)),
                 side => {
                     assert_eq!(side, 1);
-                    name(strips_of::<1>(width))
+                    name(strips_of::<1>(size, width, height))
                 }
             };
-            let wanted = if by_blocks { "squares" } else { by_width };
-            assert_eq!(strips, wanted, "{size} {width}");
+            let wanted = match (by_blocks, is_low) {
+                (true, _) => "squares",
+                (false, true) => "low",
+                (false, false) => "high",
+            };
+            assert_eq!(strips, wanted, "{size} {width} {height}");
         }
     }
 }
@@ -58,7 +63,7 @@ fn blocks_of_rows() {
         ] {
             let column = height * size;
             let wanted = match column {
-                _ if size >= 16 && width * column > 524_288 => None,
+                _ if size >= 12 && width * column > 524_288 => None,
                 ..512 => Some("eight"),
                 _ => Some("sixteen"),
             };

@@ -107,10 +107,11 @@ fn put_strips<'a, const N: usize>(
     if let Some(blocks) = row_blocks_of(N, matrix.width, matrix.height) {
         return blocks.put(cells, matrix, region);
     }
+    let Matrix { width, height, .. } = matrix;
     match side_by_size(N) {
-        4 => strips_of::<4>(matrix.width).put(cells, matrix, region),
-        8 => strips_of::<8>(matrix.width).put(cells, matrix, region),
-        _ => strips_of::<1>(matrix.width).put(cells, matrix, region),
+        4 => strips_of::<4>(N, width, height).put(cells, matrix, region),
+        8 => strips_of::<8>(N, width, height).put(cells, matrix, region),
+        _ => strips_of::<1>(N, width, height).put(cells, matrix, region),
     }
 }
 
