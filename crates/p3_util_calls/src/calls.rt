@@ -9,11 +9,11 @@ ghost use Rattle.p3_util_kernels.specs.SwapCounts.{row_swaps};
 ghost use Rattle.p3_util_kernels.specs.Transpose.{IsTranspose};
 
 use crate::choice::{
-    LONG_BYTES, Limits, SHORT_COLUMN, has_lines, row_blocks_of, side_of, strips_of,
+    LONG_BYTES, Limits, SHORT_COLUMN, few_items_of, has_lines, row_blocks_of, side_of, strips_of,
 };
 use p3_util_kernels::kernel::{
-    Blocks, Columns, InRows, LARGE_MATRIX, Matrix, Order, PutRegion, RowDigits, ShortColumns,
-    TINY_MATRIX, UNIT, put_as_block,
+    Blocks, Columns, InRows, LARGE_MATRIX, Matrix, Order, PutRegion, RowDigits, ShortColumns, UNIT,
+    put_as_block,
 };
 use p3_util_kernels::places::{Cells, Places, Source};
 use p3_util_kernels::transpose::Region;
@@ -115,7 +115,7 @@ pub(crate) fn transpose_whole<M: Output, R: Source<Item = M::Item> + Copy>(
     if height <= 1 {
         return cells.copy(source);
     }
-    if !M::IS_LONG && items < TINY_MATRIX {
+    if !M::IS_LONG && items < few_items_of(M::SIDE) {
         if M::IS_INLINED {
             return transpose_tiny(cells, source, width, height);
         }

@@ -7,7 +7,7 @@
 //! |---|---|---|
 //! | a whole call, fewer than two rows or columns | as a copy | its items keep their order |
 //! | a whole call, one block: [`side_of`] | as this block | in registers |
-//! | a whole call, fewer than 128 items of less than 1 KiB: `TINY_MATRIX`, [`LONG_BYTES`] | column after column, in code that is inlined without debug assertions | another call would take as long |
+//! | a whole call, fewer than 256 items of less than 1 KiB, or 128 with blocks in registers: [`few_items_of`], [`LONG_BYTES`] | column after column, in code that is inlined without debug assertions | another call would take as long |
 //! | a whole call, up to 1048576 items: `LARGE_MATRIX` | in strips | the lines and pages in use stay in the caches |
 //! | 16 MiB and more, items of 4, 8 or 16 bytes at a multiple of their size, 128 bytes and more in a row of the matrix or part, and 320 in a column: [`Limits`] | by lines | what is stored past the caches is not read first, but whole lines have to be stored. A part of a line, which a column may have at both of its ends, takes longer |
 //! | all others | in leaves, with the same strips | a leaf stays in the caches |
@@ -25,11 +25,14 @@
 
 ghost use Rattle.p3_util_kernels.specs.Region.{LiesInMatrix};
 
-use p3_util_kernels::kernel::{HIGH_ROWS, Matrix, RowBlocks, Strips};
+use p3_util_kernels::kernel::{HIGH_ROWS, Matrix, RowBlocks, Strips, TINY_MATRIX};
 use p3_util_kernels::transpose::Region;
 
 /// An item of so many bytes is exchanged as a run of bytes, which takes hardly longer, and is put by a function of its own.
 pub(crate) const LONG_BYTES: usize = 1024;
+
+/// The same as `TINY_MATRIX`, of items that are transposed in registers.
+const TINY_IN_REGISTERS: usize = 128;
 
 /// Where few items are put column after column, columns of at most so many items are put in one loop each. This takes fewer
 /// instructions, most of all in a build without optimization for speed.
@@ -118,7 +121,7 @@ fn is_long(size: usize, width: usize, height: usize) -> bool {
 ///
 /// | Matrix | [`RowBlocks`] | Why |
 /// |---|---|---|
-/// | fewer than 128 items: column after column above | none: blocks of 4 rows | such a matrix has few rows |
+/// | fewer than 256 items: column after column above | none: blocks of 4 rows | such a matrix has few rows |
 /// | items of 1 KiB and more: [`LONG_BYTES`] | none: strips as above | the tests take little of the time of so many bytes |
 /// | items of 12 bytes and more: `LONG_ITEM`, more than 512 KiB: `LONG_LIST` | none | the same |
 /// | a column of 512 bytes and more: `ROWS_LONG_COLUMN` | `Sixteen` | half as many parts of a cache line of the output are stored |
@@ -144,6 +147,17 @@ pub(crate) const fn side_of(size: usize, has_registers: bool, is_x86_64: bool) -
         4 | 8 if has_registers && is_x86_64 => 4,
         1 | 2 | 4 | 8 if has_registers => 8,
         _ => 1,
+    }
+}
+
+/// A matrix of fewer items is put column after column, if the holder transposes squares of `side` rows in registers, or none.
+/// Without such squares, strips would put the columns in the same way, after more calls.
+#[inline(always)]
+pub(crate) const fn few_items_of(side: usize) -> usize {
+    if side > 1 {
+        TINY_IN_REGISTERS
+    } else {
+        TINY_MATRIX
     }
 }
 

@@ -5,7 +5,7 @@
 //! neighbouring columns. To *put* a region is to put each of its items into the cell that it has in
 //! the transpose.
 //!
-//! The transpose of a whole matrix takes one of three paths. A matrix of fewer than 128 items is
+//! The transpose of a whole matrix takes one of three paths. A matrix of fewer than 256 items is
 //! put column after column, and one of at most 2^20 items as one region, strip by strip. A strip is
 //! some neighbouring rows of the region. A larger matrix is split into regions first, unless it is
 //! narrow. The calls whose names have `region` put a region without a split, and those whose names

@@ -61,7 +61,7 @@ where
 /// exactly `width * height` writes.
 ///
 /// Both lengths must be `width * height`, which [`fits_matrix`](crate::transpose::fits_matrix)
-/// checks. If 16 divides `width`, a matrix of 128 to 1024 items is written 16 rows at a time, in
+/// checks. If 16 divides `width`, a matrix of 256 to 1024 items is written 16 rows at a time, in
 /// blocks of 4 by 4 items. Rows that fill no block are written column after column. The contract
 /// does not say so, but tests of the order of the writes show it.
 pub fn transpose_on<C: Cells>(input: &[C::Item], out: &mut Writes<C>, width: usize, height: usize)

@@ -11,7 +11,7 @@ use crate::transpose::ways::PutRegion;
 
 /// A matrix of fewer items is put column after column.
 #[doc(hidden)]
-pub const TINY_MATRIX: usize = 128;
+pub const TINY_MATRIX: usize = 256;
 
 /// The greatest number of items of a matrix that is not split.
 #[doc(hidden)]

@@ -11,7 +11,7 @@ use crate::kernels::transpose::strips::{Strips, UNIT};
 use crate::kernels::transpose::ways::PutRegion;
 
 /// A matrix of fewer items is put column after column.
-pub(crate) const TINY_MATRIX: usize = 128;
+pub(crate) const TINY_MATRIX: usize = 256;
 
 /// The greatest number of items of a matrix that is not split.
 pub(crate) const LARGE_MATRIX: usize = 1_048_576;

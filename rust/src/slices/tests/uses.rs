@@ -139,6 +139,7 @@ fn leaves(rows: Range<usize>, cols: Range<usize>) -> Vec<Region> {
 /// part.
 fn check_whole<const N: usize>() {
     let size = N;
+    let few = if side_by_size(size) > 1 { 128 } else { 256 };
     for sides in [
         [1, 5],
         [5, 1],
@@ -148,6 +149,10 @@ fn check_whole<const N: usize>() {
         [8, 8],
         [4, 4],
         [3, 5],
+        [9, 14],
+        [8, 16],
+        [15, 17],
+        [16, 16],
         [40, 30],
         [150, 140],
     ] {
@@ -155,10 +160,10 @@ fn check_whole<const N: usize>() {
         let wanted = match side_by_size(size) {
             _ if width < 2 || height < 2 => [Did::Copied].into(),
             side if side > 1 && sides == [side; 2] => [Did::Block(0, side * side)].into(),
-            _ if width * height < 128 && size < 1024 && cfg!(not(feature = "checked")) => {
+            _ if width * height < few && size < 1024 && cfg!(not(feature = "checked")) => {
                 (0..width * height).map(Did::Put).collect()
             }
-            _ if width * height < 128 && size < 1024 => continue,
+            _ if width * height < few && size < 1024 => continue,
             _ => told::<N>(1, sides, |cells, matrix| put_strips(cells, matrix, matrix.whole())),
         };
         let by_call = told::<N>(1, sides, |cells, matrix| {
