@@ -155,7 +155,7 @@ def words(pattern):
 
 def check_functions():
     """Each public function is in a test of p3_util_vectors or of the package. If it promises anything, MODEL has it, or the
-    type that it is a method of. If it has a precondition, a proved caller or test has it. If it is no method, it is where WHERE
+    type that it is a method of. If it has a precondition, a proved caller or a test in Rattle has it. If it is no method, it is where WHERE
     says."""
     tests = words(r"crates/p3_util_vectors/src/|rust/(tests|src/.*tests)|tests/unproved/")
     callers, model = words(r"crates/p3_util_(callers|vectors|transform)/src/"), words(r"docs/MODEL\.md")

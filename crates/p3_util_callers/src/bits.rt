@@ -4,11 +4,11 @@
 ghost use Rattle.std.specs.Prelude.{◌≡◌, ℕ, ◌+◌, ◌-◌, ◌*◌, ◌/◌, ◌%◌, ◌^◌, ◌<◌, ◌≤◌, IsFalse, IsTrue, IfSome, MatchOption, None};
 ghost use Rattle.std.specs.Int.{IsPowerOfTwo};
 ghost use Rattle.p3_util.specs.Digits.{rev};
-ghost use Rattle.p3_util.specs.Powers.{HasLog2, IsPowerOfThree};
+ghost use Rattle.p3_util.specs.Powers.{HasLog2};
 
 use p3_util::bits::{
-    checked_log_size_sum, checked_pow2, is_power_of_three, log2_ceil_usize, log2_floor_usize,
-    log2_strict_usize, log3_strict_usize, reverse_bits, reverse_bits_len,
+    checked_log_size_sum, checked_pow2, log2_ceil_usize, log2_floor_usize, log2_strict_usize,
+    reverse_bits, reverse_bits_len,
 };
 
 /// The least power of two that is at least `len`, or `None` if that power is 2^64. A transform pads
@@ -82,13 +82,6 @@ pub fn row_and_column(i: usize, rows: usize, cols: usize) -> (usize, usize)
     ensures column { result.1 < cols }
 {
     (i / cols, i % cols)
-}
-
-/// The logarithm of `n` to base 3, if `n` is a power of three.
-pub fn log3_of(n: usize) -> Option<usize>
-    ensures { MatchOption result (¬ IsPowerOfThree n) (λ e. n ≡ 3 ^ e) }
-{
-    is_power_of_three(n).then(|| log3_strict_usize(n))
 }
 
 /// The place in a list of `2^(k + 1)` items from which a reversal by index bits moves an item to

@@ -12,10 +12,7 @@ ghost use Rattle.p3_util.specs.Transpose.{IsTranspose};
 
 use p3_util::places::{Cells, Places, SlicePlaces, Swaps};
 use p3_util::transpose::{Region, transpose_region_counted, transpose_square_on};
-use p3_util::{
-    log2_strict_usize, reverse_chunks_on, reverse_counted, reverse_index_bits_on,
-    reverse_row_index_bits_on, reverse_rows_counted,
-};
+use p3_util::{log2_strict_usize, reverse_chunks_on, reverse_counted, reverse_rows_counted};
 
 /// Reverses the items of a holder and then the order of its rows, and returns the number of steps.
 /// The holder makes as many steps, by `same_holder_trans`.
@@ -46,23 +43,6 @@ pub fn reverse_slice_items_and_rows<T>(vals: &mut [T], row_width: usize) -> u128
         × IsRowReversal row_width items vals.new }
 {
     reverse_items_and_rows(&mut SlicePlaces::new(vals), row_width)
-}
-
-/// Reverses the items of a holder and then the order of its rows, with one counter, and returns the
-/// holder and the number of swaps.
-pub fn reverse_and_count<S: Places>(places: S, row_width: usize) -> (S, u128)
-    requires items { IsReversible (length (S.items places)) }
-    requires rows { FitsRows (length (S.items places)) row_width }
-    ensures order { (items : List S.Item) × IsReversal (S.items places) items
-        × IsRowReversal row_width items (S.items result.0) }
-    ensures count { let n = length (S.items places) in
-        result.1 ≡ counted (counted 0 (reversal_swaps n)) (row_swaps n row_width) }
-{
-    let mut m = Swaps::new(places);
-    reverse_index_bits_on(&mut m);
-    reverse_row_index_bits_on(&mut m, row_width);
-    let swaps = m.swaps();
-    (m.into_inner(), swaps)
 }
 
 /// Reverses `m` by index bits: first by chunks, then by squares, and then by chunks again. It has

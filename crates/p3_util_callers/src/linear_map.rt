@@ -2,7 +2,7 @@
 //! the map's pairs as a list.
 ghost use Rattle.std.specs.Prelude.{◌≡◌, ◌⊎◌, IsSome, ◌≢◌, ℕ, ◌+◌, ◌^◌, ◌<◌, ◌≤◌, ◌↔◌, false, [], IsTrue, None, Some, IfOk, IfSome, OnOk, OnErr, nat_eq, sum};
 ghost use Rattle.std.specs.Map.{values_of};
-ghost use Rattle.p3_util.specs.LinearMap.{put, put_all, value_at};
+ghost use Rattle.p3_util.specs.LinearMap.{put, value_at};
 ghost use Rattle.p3_util_callers.specs.MapCalls.{answer_of, answers_of, after, pairs_after};
 
 use p3_util::NoRoom;
@@ -182,11 +182,4 @@ pub fn add_symbol(
         ↔ ((q ≡ symbol) ⊎ IsSome (value_at nat_eq table.old q))) }
 {
     table.insert(symbol, offset)
-}
-
-/// The map that is made from a list of pairs.
-pub fn made_of(alloc: Global, pairs: &[(u32, u8)]) -> Result<LinearMap<u32, u8>, AllocError>
-    ensures { IfOk result (λ m. m ≡ put_all nat_eq [] pairs.now) }
-{
-    LinearMap::try_from_iter(alloc, pairs.iter().copied())
 }

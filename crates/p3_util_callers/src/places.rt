@@ -6,8 +6,7 @@ ghost use Rattle.std.proofs.Common.{rules};
 ghost use Rattle.p3_util.specs.ItemsAt.{items_at};
 ghost use Rattle.p3_util.specs.Steps.{counted};
 
-use p3_util::places::{Cells, Places, Swaps, Writes};
-use p3_util::transpose::transpose_on;
+use p3_util::places::{Cells, Places, Swaps};
 
 /// Moves the item at place `i` to `k`, the one at `k` to `j` and the one at `j` to `i`, with two
 /// swaps.
@@ -64,27 +63,6 @@ impl<C: Cells> Cells for Tally<C> {
     ghost same_holder_refl = { Prim.search rules };
 
     ghost same_holder_trans = { Prim.search rules };
-}
-
-/// Transposes to cells that two counters count, one of the library and a `Tally` inside it, and
-/// returns both counts.
-pub fn counted_by_both<C: Cells>(
-    input: &[C::Item],
-    cells: C,
-    width: usize,
-    height: usize,
-) -> (u128, u128)
-where
-    C: Drop,
-    requires input_fits { length input.now ≡ width * height }
-    requires output_fits { length (C.items cells) ≡ width * height }
-    ensures outer { result.0 ≡ width * height }
-    ensures inner { result.1 ≡ width * height }
-{
-    let mut out = Writes::new(Tally { cells, count: 0 });
-    transpose_on(input, &mut out, width, height);
-    let outer = out.writes();
-    (outer, out.into_inner().count)
 }
 
 /// Cells of 32 bits that are kept in 64 bits, such as field elements before a sum.

@@ -1,9 +1,8 @@
 //! Callers of the transposes.
 
 ghost use Rattle.std.specs.Prelude.{◌≡◌, ◌+◌, ◌-◌, ◌*◌, ◌^◌, ◌<◌, ◌≤◌, ℕ, IsTrue, IsFalse, length, slice_get};
-ghost use Rattle.p3_util.specs.Levels.{lev, nest};
-ghost use Rattle.p3_util.specs.Region.{IsRegionTransposed, LiesInMatrix, cols_of, items_of, rows_of};
-ghost use Rattle.p3_util.specs.Square.{IsSquareTransposed};
+ghost use Rattle.p3_util.specs.Levels.{lev};
+ghost use Rattle.p3_util.specs.Region.{IsRegionTransposed, LiesInMatrix, items_of};
 ghost use Rattle.p3_util.specs.Steps.{counted};
 ghost use Rattle.p3_util.specs.SwapCounts.{square_swaps};
 ghost use Rattle.p3_util.specs.Transpose.{IsTranspose};
@@ -11,25 +10,9 @@ ghost use Rattle.p3_util.specs.Transpose.{IsTranspose};
 use p3_util::bits::log2_ceil_usize;
 use p3_util::places::{Cells, Places, SliceCells, SlicePlaces, Source, Swaps, Writes};
 use p3_util::transpose::{
-    Region, fits_matrix, fits_square, transpose, transpose_counted, transpose_region_counted,
-    transpose_region_on, transpose_source_region_counted, transpose_source_region_on,
-    transpose_source_split_on, transpose_split_on, transpose_square_counted, transpose_square_on,
+    Region, fits_matrix, transpose, transpose_region_counted, transpose_region_on,
+    transpose_source_split_on, transpose_square_counted, transpose_square_on,
 };
-
-/// Writes the transpose of `input` to `output`, and returns the number of writes.
-pub fn transpose_and_count<T: Copy>(
-    input: &[T],
-    output: &mut [T],
-    width: usize,
-    height: usize,
-) -> u128
-    requires input_fits { length input.now ≡ width * height }
-    requires output_fits { length output.old ≡ width * height }
-    ensures order { IsTranspose width height input.now output.new }
-    ensures count { result ≡ width * height }
-{
-    transpose_counted(input, &mut SliceCells::new(output), width, height)
-}
 
 /// Writes the two halves of `input` to the even and the odd places of `output`. The clauses state a
 /// place as those of the transpose do, even in column 0.
@@ -138,26 +121,6 @@ pub fn transpose_slice_square<T>(vals: &mut [T], log_size: usize) -> u128
     transpose_square_counted(&mut SlicePlaces::new(vals), 0, log_size, log_size)
 }
 
-/// Transposes the square of `2^log_size` rows and columns at `base` in place and returns `true`, if
-/// the square lies in `m`. Otherwise returns `false` and changes nothing.
-pub fn transpose_square_where_it_fits<S: Places>(
-    m: &mut Swaps<S>,
-    base: usize,
-    log_stride: usize,
-    log_size: usize,
-) -> bool
-    ensures done { IsTrue result
-        → IsSquareTransposed base log_stride log_size (S.items m.old.holder)
-        (S.items m.new.holder) }
-    ensures left { IsFalse result → m.new ≡ m.old }
-{
-    let fits = fits_square(m.len(), base, log_stride, log_size);
-    if fits {
-        transpose_square_on(m, base, log_stride, log_size);
-    }
-    fits
-}
-
 /// Writes the transpose of a part of a matrix and returns `true`, if the part lies in the matrix
 /// and both lists have the length of the matrix. Otherwise returns `false` and changes nothing.
 pub fn transpose_part_where_it_fits<C: Cells>(
@@ -177,29 +140,6 @@ pub fn transpose_part_where_it_fits<C: Cells>(
     }
     transpose_region_on(input, out, part, width, height);
     true
-}
-
-/// Puts a part of any source, if the part lies in the matrix, and returns the number of writes, or 0.
-pub fn put_part_of_source<R, C>(
-    input: &R,
-    cells: &mut C,
-    part: Region,
-    width: usize,
-    height: usize,
-) -> u128
-where
-    C: Cells,
-    R: Source<Item = C::Item>,
-    requires input_fits { length (R.items input.now) ≡ width * height }
-    requires output_fits { length (C.items cells.old) ≡ width * height }
-    ensures { LiesInMatrix part width height → (result ≡ items_of part)
-        × IsRegionTransposed part width height (R.items input.now) (C.items cells.old)
-        (C.items cells.new) }
-{
-    if !part.fits(width, height) {
-        return 0;
-    }
-    transpose_source_region_counted(input, cells, part, width, height)
 }
 
 /// The number of levels that the split of a region with these sides needs.
@@ -231,54 +171,6 @@ pub fn transpose_with_first<T: Copy>(input: &[T], output: &mut [T], width: usize
         → slice_get output.new y ≡ slice_get input.now (y * width) }
 {
     transpose(input, output, width, height);
-}
-
-/// Writes the transpose of the first `rows` rows of a source, and counts the writes.
-pub fn transpose_top<R, C>(input: &R, out: &mut Writes<C>, rows: usize, width: usize, height: usize)
-where
-    C: Cells,
-    R: Source<Item = C::Item>,
-    requires input_fits { length (R.items input.now) ≡ width * height }
-    requires output_fits { length (C.items out.old.holder) ≡ width * height }
-    requires rows_fit { rows ≤ height }
-    ensures transposed { IsRegionTransposed
-        (record { row_start = 0; row_end = rows; col_start = 0; col_end = width }) width height
-        (R.items input.now) (C.items out.old.holder) (C.items out.new.holder) }
-    ensures count { out.new.count ≡ counted out.old.count (rows * width) }
-{
-    let region = Region {
-        row_start: 0,
-        row_end: rows,
-        col_start: 0,
-        col_end: width,
-    };
-    transpose_source_region_on(input, out, region, width, height);
-}
-
-/// Writes the transpose of `region`, split as far as its sides ask for. Returns the cells, and how
-/// deep the splits nest.
-pub fn transpose_by_splits<C: Cells>(
-    input: &[C::Item],
-    out: C,
-    region: Region,
-    width: usize,
-    height: usize,
-) -> (C, u32)
-    requires input_fits { length input.now ≡ width * height }
-    requires output_fits { length (C.items out) ≡ width * height }
-    requires inside { LiesInMatrix region width height }
-    ensures transposed { IsRegionTransposed region width height input.now (C.items out)
-        (C.items result.0) }
-    ensures nested { result.1 ≡ nest (rows_of region) (cols_of region) }
-    ensures bound { result.1 ≤ 57 }
-{
-    let levels = levels_of(
-        region.row_end - region.row_start,
-        region.col_end - region.col_start,
-    );
-    let mut out = Writes::new(out);
-    let nested = transpose_split_on(input, &mut out, region, width, height, levels);
-    (out.into_inner(), nested)
 }
 
 /// The same from any source, with 64 levels, which are enough for every region. Returns the number of
