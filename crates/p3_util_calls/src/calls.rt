@@ -9,7 +9,8 @@ ghost use Rattle.p3_util_kernels.specs.SwapCounts.{row_swaps};
 ghost use Rattle.p3_util_kernels.specs.Transpose.{IsTranspose};
 
 use crate::choice::{
-    LONG_BYTES, Limits, SHORT_COLUMN, few_items_of, has_lines, row_blocks_of, side_of, strips_of,
+    LONG_BYTES, Limits, SHORT_COLUMN, few_items_of, has_lines, is_read_far, row_blocks_of, side_of,
+    strips_of,
 };
 use p3_util_kernels::kernel::{
     Blocks, Columns, InRows, LARGE_MATRIX, Matrix, Order, PutRegion, RowDigits, ShortColumns, UNIT,
@@ -233,11 +234,12 @@ fn put_region<M: Output, R: Source<Item = M::Item> + Copy>(
             return order_of(is_large, blocks).put(cells, matrix, region);
         }
     }
+    let is_low = !M::TESTS_INDICES && is_read_far(size, width, height);
     // The side is a constant, so that an instance has no code for other squares.
     match M::SIDE {
-        4 => order_of(is_large, strips_of::<4>(size, width, height)).put(cells, matrix, region),
-        8 => order_of(is_large, strips_of::<8>(size, width, height)).put(cells, matrix, region),
-        _ => order_of(is_large, strips_of::<1>(size, width, height)).put(cells, matrix, region),
+        4 => order_of(is_large, strips_of::<4>(is_low, width)).put(cells, matrix, region),
+        8 => order_of(is_large, strips_of::<8>(is_low, width)).put(cells, matrix, region),
+        _ => order_of(is_large, strips_of::<1>(is_low, width)).put(cells, matrix, region),
     }
 }
 

@@ -17,7 +17,7 @@
 //! | 1 or 2 bytes | high, by blocks of 8 by 8 | a register holds one or two rows of such a block |
 //! | 4 or 8 bytes | high, by blocks of 4 by 4. On aarch64, by blocks of 8 by 8 | a register holds a row of 4, or half a row. See [`side_of`] |
 //! | 1 KiB and more | of 16 rows, column after column, each item by a function of its own | in a build without optimization, other functions would have copies of it on the stack |
-//! | 12 bytes and more: `LONG_ITEM`, in a list of more than 512 KiB: `LONG_LIST` | low, column after column | the processor reads ahead in at most 32 rows at a time |
+//! | 12 to 23 bytes: `FAR_ITEM`, `FAR_LIMIT`, in a list of more than 512 KiB: `FAR_LIST` | low, column after column | see [`is_read_far`] |
 //! | all others | low if 16 divides the width, otherwise high, column after column | see `Strips::by_width` |
 //!
 //! Lines are put on x86-64, and blocks where items are transposed in registers. Elsewhere these rows fit no matrix. Where each
@@ -39,10 +39,18 @@ const TINY_IN_REGISTERS: usize = 128;
 pub(crate) const SHORT_COLUMN: usize = 8;
 
 /// A list of more bytes and its transpose do not fit together in a cache of 1 MiB, which is of the second level.
-const LONG_LIST: usize = 1 << 19;
+const FAR_LIST: usize = 1 << 19;
 
-/// If an item has so many bytes, a column of a low strip fills several cache lines.
-const LONG_ITEM: usize = 12;
+/// The least number of bytes of an item that is read far.
+const FAR_ITEM: usize = 12;
+
+/// An item of so many bytes is not read far: a column of a high strip fills most of a page.
+const FAR_LIMIT: usize = 24;
+
+/// Where each index is tested, items of so many bytes are put one by one if their list has more than `ROWS_LONG_LIST` bytes.
+const ROWS_LONG_ITEM: usize = 16;
+
+const ROWS_LONG_LIST: usize = 1 << 19;
 
 /// Where each index is tested, a matrix with columns of so many bytes is put by blocks of 16 rows.
 const ROWS_LONG_COLUMN: usize = 1 << 9;
@@ -94,26 +102,25 @@ impl Limits {
 }
 
 /// The strips of a matrix, and of the leaves of its parts. If they are put by squares, these have `SIDE` by `SIDE` items:
-/// `SIDE` is [`side_of`] these items.
+/// `SIDE` is [`side_of`] these items. Others are low if `is_low` says so, or if the width does.
 #[inline(always)]
-pub(crate) fn strips_of<const SIDE: usize>(
-    size: usize,
-    width: usize,
-    height: usize,
-) -> Strips<SIDE, HIGH_ROWS> {
+pub(crate) fn strips_of<const SIDE: usize>(is_low: bool, width: usize) -> Strips<SIDE, HIGH_ROWS> {
     if SIDE > 1 {
         Strips::Squares
-    } else if is_long(size, width, height) {
+    } else if is_low {
         Strips::Low
     } else {
         Strips::by_width(width)
     }
 }
 
-/// Whether a matrix has long items, of `size` bytes, in a long list. The list is in memory, so no product wraps.
+/// Whether a matrix of items of `size` bytes takes less time by low strips, whatever its width is, because its items come from
+/// beyond the second-level cache. A strip is read column by column, so each of its rows is a stream of its own, and processors
+/// read ahead in few of them: in 32 at most. Longer items take less time by high strips, whose columns are longer runs of cells.
+/// The list is in memory, so no product wraps.
 #[inline(always)]
-fn is_long(size: usize, width: usize, height: usize) -> bool {
-    size >= LONG_ITEM && width.wrapping_mul(height).wrapping_mul(size) > LONG_LIST
+pub(crate) fn is_read_far(size: usize, width: usize, height: usize) -> bool {
+    FAR_ITEM <= size && size < FAR_LIMIT && width.wrapping_mul(height).wrapping_mul(size) > FAR_LIST
 }
 
 /// Where each index is tested, a matrix is put by blocks of several rows instead of columns and strips. The holder tests each
@@ -123,13 +130,13 @@ fn is_long(size: usize, width: usize, height: usize) -> bool {
 /// |---|---|---|
 /// | fewer than 256 items: column after column above | none: blocks of 4 rows | such a matrix has few rows |
 /// | items of 1 KiB and more: [`LONG_BYTES`] | none: strips as above | the tests take little of the time of so many bytes |
-/// | items of 12 bytes and more: `LONG_ITEM`, more than 512 KiB: `LONG_LIST` | none | the same |
+/// | items of 16 bytes and more: `ROWS_LONG_ITEM`, more than 512 KiB: `ROWS_LONG_LIST` | none | the same |
 /// | a column of 512 bytes and more: `ROWS_LONG_COLUMN` | `Sixteen` | half as many parts of a cache line of the output are stored |
 /// | all others | `Eight` | the loop needs fewer registers |
 #[inline(always)]
 pub(crate) fn row_blocks_of(size: usize, width: usize, height: usize) -> Option<RowBlocks> {
     let column = height.wrapping_mul(size);
-    if is_long(size, width, height) {
+    if size >= ROWS_LONG_ITEM && width.wrapping_mul(column) > ROWS_LONG_LIST {
         None
     } else if column >= ROWS_LONG_COLUMN {
         Some(RowBlocks::Sixteen)

@@ -5,7 +5,8 @@
 #[cfg(target_pointer_width = "32")]
 use crate::width::Index as usize;
 use crate::kernels::choice::{
-    LONG_BYTES, Limits, SHORT_COLUMN, few_items_of, has_lines, row_blocks_of, side_of, strips_of,
+    LONG_BYTES, Limits, SHORT_COLUMN, few_items_of, has_lines, is_read_far, row_blocks_of, side_of,
+    strips_of,
 };
 use crate::kernels::kernel::{
     Blocks, Columns, InRows, LARGE_MATRIX, Matrix, Order, PutRegion, RowDigits, ShortColumns, UNIT,
@@ -263,11 +264,12 @@ fn put_region<M: Output, R: Source<Item = M::Item> + Copy>(
             return order_of(is_large, blocks).put(cells, matrix, region);
         }
     }
+    let is_low = !M::TESTS_INDICES && is_read_far(size, width, height);
     // The side is a constant, so that an instance has no code for other squares.
     match M::SIDE {
-        4 => order_of(is_large, strips_of::<4>(size, width, height)).put(cells, matrix, region),
-        8 => order_of(is_large, strips_of::<8>(size, width, height)).put(cells, matrix, region),
-        _ => order_of(is_large, strips_of::<1>(size, width, height)).put(cells, matrix, region),
+        4 => order_of(is_large, strips_of::<4>(is_low, width)).put(cells, matrix, region),
+        8 => order_of(is_large, strips_of::<8>(is_low, width)).put(cells, matrix, region),
+        _ => order_of(is_large, strips_of::<1>(is_low, width)).put(cells, matrix, region),
     }
 }
 

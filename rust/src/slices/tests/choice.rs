@@ -4,7 +4,7 @@ use core::ops::Range;
 use std::vec::Vec;
 
 use super::{Noted, USES_REGISTERS, side_by_size, transposed};
-use crate::kernels::choice::{Limits, row_blocks_of, strips_of};
+use crate::kernels::choice::{Limits, is_read_far, row_blocks_of, strips_of};
 use crate::kernels::kernel::RowBlocks;
 use crate::kernels::places::SliceSource;
 use crate::kernels::transpose::{Matrix, PutRegion, Region, Strips, transpose_matrix};
@@ -25,15 +25,20 @@ fn fit_part(limits: Limits, size: usize, [width, height]: [usize; 2], [rows, col
 fn strips() {
     for width in [1, 7, 8, 16, 64, 181, 256, 512, 768, 1024, 1025] {
         let of_sizes = |size| [5, 1 << 15, 1 << 17].map(|height| (size, height));
-        for (size, height) in [0, 1, 2, 3, 4, 8, 11, 12, 16, 32, 64].into_iter().flat_map(of_sizes) {
-            let is_low = width % 16 == 0 || size >= 12 && width * height * size > 524_288;
+        for (size, height) in [0, 1, 2, 3, 4, 8, 11, 12, 16, 23, 24, 32, 64]
+            .into_iter()
+            .flat_map(of_sizes)
+        {
+            let is_far = is_read_far(size, width, height);
+            assert_eq!(is_far, (12..24).contains(&size) && width * height * size > 524_288);
+            let is_low = width % 16 == 0 || is_far;
             let by_blocks = USES_REGISTERS && matches!(size, 1 | 2 | 4 | 8);
             let strips = match side_by_size(size) {
-                4 => name(strips_of::<4>(size, width, height)),
-                8 => name(strips_of::<8>(size, width, height)),
+                4 => name(strips_of::<4>(is_far, width)),
+                8 => name(strips_of::<8>(is_far, width)),
                 side => {
                     assert_eq!(side, 1);
-                    name(strips_of::<1>(size, width, height))
+                    name(strips_of::<1>(is_far, width))
                 }
             };
             let wanted = match (by_blocks, is_low) {
@@ -63,7 +68,7 @@ fn blocks_of_rows() {
         ] {
             let column = height * size;
             let wanted = match column {
-                _ if size >= 12 && width * column > 524_288 => None,
+                _ if size >= 16 && width * column > 524_288 => None,
                 ..512 => Some("eight"),
                 _ => Some("sixteen"),
             };

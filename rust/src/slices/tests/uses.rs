@@ -8,7 +8,7 @@ use super::{SliceItems, USES_REGISTERS, side_by_size};
 use crate::kernels::calls::{Output, transpose_region, transpose_whole};
 #[cfg(feature = "checked")]
 use crate::kernels::choice::row_blocks_of;
-use crate::kernels::choice::{Limits, strips_of};
+use crate::kernels::choice::{Limits, is_read_far, strips_of};
 use crate::kernels::places::{Block, Cells, SliceSource, Source};
 use crate::kernels::transpose::{Matrix, PutRegion, Region};
 
@@ -108,10 +108,11 @@ fn put_strips<'a, const N: usize>(
         return blocks.put(cells, matrix, region);
     }
     let Matrix { width, height, .. } = matrix;
+    let is_low = cfg!(not(feature = "checked")) && is_read_far(N, width, height);
     match side_by_size(N) {
-        4 => strips_of::<4>(N, width, height).put(cells, matrix, region),
-        8 => strips_of::<8>(N, width, height).put(cells, matrix, region),
-        _ => strips_of::<1>(N, width, height).put(cells, matrix, region),
+        4 => strips_of::<4>(is_low, width).put(cells, matrix, region),
+        8 => strips_of::<8>(is_low, width).put(cells, matrix, region),
+        _ => strips_of::<1>(is_low, width).put(cells, matrix, region),
     }
 }
 
@@ -155,6 +156,7 @@ fn check_whole<const N: usize>() {
         [16, 16],
         [40, 30],
         [150, 140],
+        [300, 150],
     ] {
         let [width, height] = sides;
         let wanted = match side_by_size(size) {
