@@ -1,5 +1,5 @@
 #!/usr/bin/env bash
-# Runs the first of README's two commands, and compares its output with the end of its line. If `rt ci` has built the
+# Runs README's command that proves a program and runs it, and compares its output with the end of its line. If `rt ci` has built the
 # program, it is not proved and built again. Then proves the examples of docs/CALLING.md as a reader pastes them. A block
 # of Rust that has `use` lines becomes a module of a crate that depends only on p3_util. The first line of a block of antt
 # says which file of proofs/ it is, in a crate app: the block of Rust before it is the lib.rt of that crate. They are proved
@@ -7,12 +7,12 @@
 set -euo pipefail
 cd "$(dirname "$0")/.."
 
-line=$(grep -m 1 '^(cd crates/' README.md)
+line=$(grep -m 1 '^(cd crates/.* rt run ' README.md)
 command=${line%%   #*}
 [ ! -x crates/p3_util_run/out/p3_util_run ] || command=${command/rt run --/out/p3_util_run}
 printed=$(bash -c "$command")
 [ "$printed" = "${line##* }" ] || { printf 'FAILED  %s\nprints %s\n' "$line" "$printed" >&2 && exit 1; }
-echo "README's first command prints $printed"
+echo "README's command prints $printed"
 
 room=$(mktemp -d)
 trap 'rm -rf "$room"' EXIT
