@@ -2,7 +2,7 @@
 
     python3 tools/c_exports.py
 
-In each of SOURCES, the export for items of 1 byte is written by hand, and the exports for the other sizes are made from it.
+In crates/p3_util_c/src/, an export for items of 1 byte is written by hand, and those for the other sizes are made from it.
 In the header, the comments are written by hand, and below them are the prototypes of the exports. tests/agree compares the
 files with what this script writes, because neither a C compiler nor the linker would notice a difference."""
 import glob
@@ -13,9 +13,9 @@ sys.dont_write_bytecode = True
 from rattle_source import declarations, read
 
 HEADER = "c/p3_util.h"
-SOURCES = [f"crates/p3_util_c/src/{name}.rt" for name in ("reverse", "rows", "transpose")]
+SOURCES = sorted(glob.glob("crates/p3_util_c/src/**/*.rt", recursive=True))
 SIZES = [1, 2, 4, 8, 12, 16, 20, 24, 32, 40, 48, 64, 96, 128, 160, 256]
-EXPORT = re.compile(r'#\[unsafe\(no_mangle\)\]\npub extern "C" fn \w+_\d+\((?:.*\n)*?\}\n\n')
+EXPORT = re.compile(r'#\[unsafe\(no_mangle\)\]\npub extern "C" fn \w+_(\d+)\((?:.*\n)*?\}\n\n')
 PROTOTYPES = re.compile(r"(?:^\w[\w *]*\bp3_util_\w+\([^()]*\);\n)+", re.M)
 # The prototype of a new export is put before these lines. Its comment is written by hand.
 END = "\n#ifdef __cplusplus\n}\n"
@@ -29,11 +29,12 @@ def item(size):
 
 
 def source(text):
-    """The text of a source with the export of each size."""
-    exports = list(EXPORT.finditer(text))
-    of_one = exports[0][0]
-    made = "".join(of_one.replace("_1(", f"_{size}(").replace("[u8]", f"[{item(size)}]") for size in SIZES)
-    return text[:exports[0].start()] + made + text[exports[-1].end():]
+    """The text of a source with the exports of each size behind each export for items of 1 byte."""
+    def of_each_size(export):
+        made = (export[0].replace("_1(", f"_{size}(").replace("[u8]", f"[{item(size)}]") for size in SIZES)
+        return "".join(made) if export[1] == "1" else ""
+    # Behind the last export of a file there is no empty line.
+    return EXPORT.sub(of_each_size, text + "\n")[:-1]
 
 
 def arguments(text):
