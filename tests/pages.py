@@ -28,7 +28,7 @@ WHERE = {
     "crates/p3_util_c/src/": FORMS + PROVED + r"|log2_ceil_u64|checked_\w+|reverse_bits|\w+_chunks\w*|zip_eq" + SMALL,
     "rust/src/lib.rs": PROVED,
     "rust/tests/package/": PROVED + r"|transpose_source_region_(?:on|counted)",
-    "rust/overlay/src/": FORMS + PROVED,
+    "rust/overlay/src/": FORMS + PROVED + "|branch_hint",
     "rust/README.md": FORMS + PROVED,
     "bench/src/": FORMS + PROVED + SMALL,
     "release/users/": FORMS + PROVED,
@@ -150,8 +150,11 @@ def public_functions():
 
 @functools.cache
 def words(pattern):
-    """The words of the files whose paths begin like this."""
-    return {word for path in tracked if re.match(pattern, path) for word in re.findall(r"\w+", read(path))}
+    """The words of the files whose paths begin like this. A word in a comment is no use of what it names, except in the table
+    of `kernels` that rust/src/lib.rs has in its documentation."""
+    comment = r"^ *//(?!/ \|).*|\s// .*" if pattern == "rust/src/lib.rs" else r"^ *//.*|\s// .*"
+    texts = (re.sub("" if path.endswith(".md") else comment, "", read(path), flags=re.M) for path in tracked if re.match(pattern, path))
+    return {word for text in texts for word in re.findall(r"\w+", text)}
 
 
 def check_functions():
