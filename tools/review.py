@@ -1,14 +1,16 @@
 """For docs/REVIEW.md, the ledger of what is checked by review: compares each row with the functions that it names.
 
-    python3 tools/review.py          prints the rows whose functions are not as they were read
-    python3 tools/review.py NAME..   writes that you have read again the rows that name these functions or files. Of a row
-                                     with whole files, name all of these
+    python3 tools/review.py                 prints the rows whose functions are not as they were read
+    python3 tools/review.py READER NAME..   writes that READER has read again the rows that name these functions or files.
+                                            Of a row with whole files, name all of these
 
-Run the second form only after you have read the functions of these rows, and found that they do what the row says. It writes
-into the last cell of a row the commit on top of which you read them, the date, and a checksum of their text without
-documentation. The checksum of a whole file also leaves out `mod` and `use` if they rename nothing, since a function that is
-added elsewhere changes these lines too. On a branch, the commit is the newest one of `main`, since those of the branch may get
-other names. tests/agree runs the first form."""
+READER is one argument: who read, a person or "the author of the change", and how, as in "A. Person, each line beside the
+contract of its trait". Run the second form only after that reading, if the functions of these rows do what the row says. It
+writes into the last cell of a row the reader, the commit on top of which the text was read, the date, and a checksum of the
+text without documentation. If READER is "-", it writes none, and so claims no reading. The checksum of a whole file also
+leaves out `mod` and `use` if they rename nothing, since a function that is added elsewhere changes these lines too. On a
+branch, the commit is the newest one of `main`, since those of the branch may get other names. tests/agree runs the first
+form."""
 import datetime
 import glob
 import hashlib
@@ -18,7 +20,7 @@ import sys
 
 LEDGER = "docs/REVIEW.md"
 ROW = re.compile(r"^\| ([^|\n]+) \| ([^|\n]+) \| ([^|\n]+) \|(?: ([^|\n]+))? \|$", re.M)
-READ = re.compile(r"([0-9a-f]{8}) (\d{4}-\d\d-\d\d) ([0-9a-f]{8})")
+READ = re.compile(r"(?:.+, )?([0-9a-f]{8}) \d{4}-\d\d-\d\d ([0-9a-f]{8})")
 # The lines that a checksum leaves out: of a file, those that name others by their own names, and documentation.
 NAMES = re.compile(r"^(?:#\[doc\(inline\)\]\n)?(?:pub(?:\(\w+\))? )?(?:mod \w+|use (?:(?!\bas\b)[^;])+);$", re.M)
 # What begins an item of Rust, or a function of Python.
@@ -85,28 +87,31 @@ def wrong():
         read, place = READ.fullmatch(row[4] or ""), f"{LEDGER}: the row '{row[1][:50]}..'"
         if lost:
             yield f"{place} names {', '.join(lost)}, which is not there"
-        elif not read or read[3] != sum_of(text):
+        elif not read or read[2] != sum_of(text):
             yield f"{place}: what it names was changed. Read it again, and see tools/review.py"
         elif has_history and git("merge-base", "--is-ancestor", read[1], "HEAD") is None:
             yield f"{place}: {read[1]} is no commit before this one"
 
 
-def sign(names):
-    """Writes that the rows that name these functions or files were read."""
+def sign(reader, names):
+    """Writes that `reader` has read the rows that name these functions or files."""
     with open(LEDGER, encoding="utf-8") as ledger:
         text = ledger.read()
+    who = "" if reader == "-" else f"{reader}, "
     commit, today = (git("merge-base", "HEAD", "main") or git("rev-parse", "HEAD"))[:8], datetime.date.today()
     for row in rows():
         whole = {file for file, functions in named(row[2]) if not functions}
         if whole <= set(names) and set(re.findall(r"`([^`]+)`", row[2])) & set(names):
-            read = f"{commit} {today} {sum_of(text_of(row[2])[0])}"
+            read = f"{who}{commit} {today} {sum_of(text_of(row[2])[0])}"
             text = text.replace(row[0], f"| {row[1]} | {row[2]} | {row[3]} | {read} |")
     with open(LEDGER, "w", encoding="utf-8") as ledger:
         ledger.write(text)
 
 
 if __name__ == "__main__":
-    sign(sys.argv[1:])
+    if len(sys.argv) == 2:
+        sys.exit("Who read them? See the head of this file.")
+    sign(sys.argv[1] if sys.argv[1:] else "-", sys.argv[2:])
     found = list(wrong())
     print("\n".join(found), end="\n" if found else "")
     sys.exit(1 if found else 0)

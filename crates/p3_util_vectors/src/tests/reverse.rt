@@ -146,12 +146,15 @@ fn check_squares<T: Item>(rt: &impl Abort, alloc: Global) {
     }
 }
 
-/// With items of 1, 3, 8 and 32 bytes.
+/// With every type of items.
 #[test]
 fn whole_squares(rt: HostRuntime) {
     check_squares::<u8>(&rt, rt.alloc());
-    check_squares::<[u8; 3]>(&rt, rt.alloc());
+    check_squares::<u32>(&rt, rt.alloc());
     check_squares::<u64>(&rt, rt.alloc());
+    check_squares::<u128>(&rt, rt.alloc());
+    check_squares::<[u8; 3]>(&rt, rt.alloc());
+    check_squares::<[u8; 8]>(&rt, rt.alloc());
     check_squares::<[u64; 4]>(&rt, rt.alloc());
 }
 
