@@ -31,6 +31,7 @@ pub struct LinearMap<K: Eq, V>(proved::LinearMap<K, V>);
 
 impl<K: Eq, V> LinearMap<K, V> {
     /// An empty map. It allocates nothing until the first pair is inserted.
+    #[inline(always)]
     pub fn new() -> Self {
         LinearMap(proved::LinearMap::new(Global))
     }
@@ -67,6 +68,7 @@ impl<K: Eq, V> LinearMap<K, V> {
 
     /// A mutable reference to the value of `k`. A new key is added at the end, with the value that `f` returns. For a
     /// known key `f` is not called. Panics if memory runs out.
+    #[inline(always)]
     #[track_caller]
     #[doc(alias = "entry")]
     pub fn get_or_insert_with(&mut self, k: K, f: impl FnOnce() -> V) -> &mut V {

@@ -97,6 +97,7 @@ impl From<String> for alloc::string::String {
 pub struct Vec<T>(alloc::vec::Vec<T>);
 
 impl<T> Vec<T> {
+    #[inline(always)]
     pub fn new(_: Global) -> Self {
         Vec(alloc::vec::Vec::new())
     }
@@ -110,10 +111,10 @@ impl<T> Vec<T> {
     #[inline(always)]
     pub fn reserve(&mut self, items: usize) -> Result<(), AllocError> {
         // Even if there is room, `try_reserve` would be a call.
-        if self.0.capacity() - self.0.len() >= items {
-            return Ok(());
+        if self.0.capacity() - self.0.len() < items && self.0.try_reserve(items).is_err() {
+            return Err(AllocError);
         }
-        self.0.try_reserve(items).map_err(|_| AllocError)
+        Ok(())
     }
 
     /// Appends `value`. There must be room for it.
@@ -130,6 +131,7 @@ impl<T> Vec<T> {
 impl<T> Deref for Vec<T> {
     type Target = [T];
 
+    #[inline(always)]
     fn deref(&self) -> &[T] {
         &self.0
     }
