@@ -107,7 +107,8 @@ if [ -n "$parallel" ]; then
     link+=(--extern "overlay=$out/libp3_util_overlay.rlib" --extern "rayon=$(echo "$parallel"/librayon-*.rlib)" \
         -L "dependency=$parallel" -L "dependency=$out" --cfg parallel)
 fi
+# Its loops are aligned, as those of the original's inlined code in it, so a time does not depend on where a loop lies.
 building "the benchmark"
-"${rust[@]}" "${level[@]}" --check-cfg 'cfg(original, library, parallel, before, few)' ${few:+--cfg few} --crate-name bench \
+"${rust[@]}" "${level[@]}" -C llvm-args=-align-all-nofallthru-blocks=5 --check-cfg 'cfg(original, library, parallel, before, few)' ${few:+--cfg few} --crate-name bench \
     "${link[@]}" -o "$out/bench" "$here/src/main.rs"
 [ -z "$build" ] || exit 0

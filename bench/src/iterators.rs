@@ -27,6 +27,19 @@ macro_rules! inserts {
     };
 }
 
+/// `get_or_insert_with` of this many new keys, in an empty map.
+macro_rules! gets_or_inserts {
+    ($name:literal, $items:literal) => {
+        timed!($name, $items, |library, keys| {
+            Box::new(move || {
+                let mut map = library::linear_map::LinearMap::new();
+                keys.iter().for_each(|&key| *map.get_or_insert_with(key, || 0) += !key);
+                *black_box(&map).get(&keys[0]).unwrap()
+            })
+        })
+    };
+}
+
 /// `iter` over a map with this many keys.
 macro_rules! iters {
     ($name:literal, $items:literal) => {
@@ -59,13 +72,16 @@ macro_rules! pairs {
 
 /// The calls. A program with few uses of an iterator does not show what it costs: the compiler inlines the only use of a
 /// function, and divides a program of many uses into units. So all of them are in this one.
-pub const ITERATED: [Timed; 25] = [
+pub const ITERATED: [Timed; 28] = [
     gets!("LinearMap::get of 1 key", 1),
     gets!("LinearMap::get of 8 keys", 8),
     gets!("LinearMap::get of 64 keys", 64),
     inserts!("LinearMap::insert of 1 key", 1),
     inserts!("LinearMap::insert of 8 keys", 8),
     inserts!("LinearMap::insert of 64 keys", 64),
+    gets_or_inserts!("LinearMap::get_or_insert_with of 1 key", 1),
+    gets_or_inserts!("LinearMap::get_or_insert_with of 8 keys", 8),
+    gets_or_inserts!("LinearMap::get_or_insert_with of 64 keys", 64),
     iters!("LinearMap::iter of 1 key", 1),
     iters!("LinearMap::iter of 8 keys", 8),
     iters!("LinearMap::iter of 64 keys", 64),
