@@ -32,32 +32,6 @@ fn check_read<T: ArrayElement + PartialEq + Debug + Drop, const N: usize>(
     }
 }
 
-#[test]
-fn read_lists(rt: HostRuntime) {
-    let alloc = rt.alloc();
-    check_read::<u32, 3>(&rt, alloc, "[1,2]", Err(Length { got: 2 }));
-    check_read::<u32, 3>(&rt, alloc, "[1,\"x\"]", refused(1, Kind));
-    check_read::<u32, 3>(&rt, alloc, "[1,2,3,\"x\"]", Err(Length { got: 4 }));
-    check_read::<u32, 3>(&rt, alloc, "[1.5,2,3]", refused(0, Float));
-    check_read::<u32, 3>(&rt, alloc, "[4294967296,0,0]", refused(0, Range));
-    check_read::<u32, 3>(&rt, alloc, "{}", Err(NotArray));
-    check_read::<u32, 3>(&rt, alloc, "[10,20,30]", Ok([10, 20, 30]));
-    check_read::<u32, 0>(&rt, alloc, "[]", Ok([]));
-    check_read::<u32, 0>(&rt, alloc, "[1]", Err(Length { got: 1 }));
-    check_read::<u32, 2>(&rt, alloc, "[]", Err(Length { got: 0 }));
-    check_read::<NoTwo, 3>(&rt, alloc, "[1,2,3]", refused(1, Memory));
-}
-
-#[test]
-fn read_lists_of_other_types(rt: HostRuntime) {
-    let alloc = rt.alloc();
-    check_read::<u64, 1>(&rt, alloc, "[-1]", refused(0, Range));
-    check_read::<i64, 1>(&rt, alloc, "[-1]", Ok([-1]));
-    check_read::<i64, 1>(&rt, alloc, "[9223372036854775808]", refused(0, Range));
-    check_read::<bool, 1>(&rt, alloc, "[1.0]", refused(0, Float));
-    check_read::<bool, 2>(&rt, alloc, "[true,1]", refused(1, Kind));
-}
-
 /// Asserts that an array is written as `text`.
 fn check_written<T: ArrayElement, const N: usize>(
     rt: &impl Abort,
@@ -81,8 +55,24 @@ fn check_both_ways<T: ArrayElement + PartialEq + Copy + Debug, const N: usize>(
 }
 
 #[test]
-fn written_arrays(rt: HostRuntime) {
+fn lists_and_arrays(rt: HostRuntime) {
     let alloc = rt.alloc();
+    check_read::<u32, 3>(&rt, alloc, "[1,2]", Err(Length { got: 2 }));
+    check_read::<u32, 3>(&rt, alloc, "[1,\"x\"]", refused(1, Kind));
+    check_read::<u32, 3>(&rt, alloc, "[1,2,3,\"x\"]", Err(Length { got: 4 }));
+    check_read::<u32, 3>(&rt, alloc, "[1.5,2,3]", refused(0, Float));
+    check_read::<u32, 3>(&rt, alloc, "[4294967296,0,0]", refused(0, Range));
+    check_read::<u32, 3>(&rt, alloc, "{}", Err(NotArray));
+    check_read::<u32, 3>(&rt, alloc, "[10,20,30]", Ok([10, 20, 30]));
+    check_read::<u32, 0>(&rt, alloc, "[]", Ok([]));
+    check_read::<u32, 0>(&rt, alloc, "[1]", Err(Length { got: 1 }));
+    check_read::<u32, 2>(&rt, alloc, "[]", Err(Length { got: 0 }));
+    check_read::<NoTwo, 3>(&rt, alloc, "[1,2,3]", refused(1, Memory));
+    check_read::<u64, 1>(&rt, alloc, "[-1]", refused(0, Range));
+    check_read::<i64, 1>(&rt, alloc, "[-1]", Ok([-1]));
+    check_read::<i64, 1>(&rt, alloc, "[9223372036854775808]", refused(0, Range));
+    check_read::<bool, 1>(&rt, alloc, "[1.0]", refused(0, Float));
+    check_read::<bool, 2>(&rt, alloc, "[true,1]", refused(1, Kind));
     check_both_ways(&rt, alloc, [10u32, 20, 30], "[10,20,30]");
     check_both_ways::<u32, 0>(&rt, alloc, [], "[]");
     check_both_ways(&rt, alloc, [0, u64::MAX], "[0,18446744073709551615]");

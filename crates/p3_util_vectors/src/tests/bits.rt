@@ -10,7 +10,7 @@ use p3_util::{
 };
 
 #[test]
-fn logarithms(rt: HostRuntime) {
+fn logarithms_and_powers(rt: HostRuntime) {
     for (n, ceil, floor) in LOGARITHMS {
         same(&rt, n, &log2_ceil_usize(n), &ceil);
         same(&rt, n, &log2_floor_usize(n), &floor);
@@ -19,11 +19,7 @@ fn logarithms(rt: HostRuntime) {
             same(&rt, n, &log2_strict_usize(n), &floor);
         }
     }
-}
-
-/// The powers of three, of which 41 fit in a `usize`, and numbers next to them.
-#[test]
-fn powers_of_three(rt: HostRuntime) {
+    // The powers of three, of which 41 fit in a `usize`, and numbers next to them.
     let mut power = 1usize;
     for exponent in 0..=40usize {
         assert!(rt; is_power_of_three(power));
@@ -34,10 +30,6 @@ fn powers_of_three(rt: HostRuntime) {
     for n in [0, 2, 4, 6, 9_223_372_036_854_775_808, usize::MAX] {
         same(&rt, n, &is_power_of_three(n), &false);
     }
-}
-
-#[test]
-fn powers_and_sums_that_fit(rt: HostRuntime) {
     for (exponent, power) in POWERS {
         same(&rt, exponent, &checked_pow2(exponent), &power);
     }
@@ -47,7 +39,7 @@ fn powers_and_sums_that_fit(rt: HostRuntime) {
 }
 
 #[test]
-fn reversed_digits(rt: HostRuntime) {
+fn digits_and_names(rt: HostRuntime) {
     for (x, bit_len, reversed) in REVERSED_DIGITS {
         assert!(rt; bit_len <= 64);
         same(&rt, x, &reverse_bits_len(x, bit_len), &reversed);
@@ -55,18 +47,10 @@ fn reversed_digits(rt: HostRuntime) {
             same(&rt, x, &reverse_bits(x, 1 << bit_len), &reversed);
         }
     }
-}
-
-#[test]
-fn short_names(rt: HostRuntime) {
     for (row, (name, short)) in NAMES.iter().enumerate() {
         let got = found(&rt, pretty_name(rt.alloc(), name));
         same(&rt, row, &got.as_str(), short);
     }
-}
-
-#[test]
-fn indices_and_marks(rt: HostRuntime) {
     equal(&rt, &indices_arr::<3>(), &[0, 1, 2]);
     equal(&rt, &indices_arr::<0>(), &[]);
     branch_hint();

@@ -103,6 +103,10 @@ fn pieces_of_lists(rt: HostRuntime) {
     ];
     check_pieces::<5>(&rt, &NUMBERS[1..], &fives, 21);
     check_pieces::<3>(&rt, &BROKEN, &[&[1, 2]], 3);
+    for (len, wanted) in &BY_FOUR {
+        let answers = NUMBERS.get(..*len).unwrap_or(&[]);
+        check_pieces::<4>(&rt, answers, wanted, len.saturating_add(1));
+    }
 }
 
 #[test]
@@ -111,14 +115,6 @@ fn padded_pieces(rt: HostRuntime) {
     check_padded(&rt, &[Some(1), None, Some(2)], 0, &[[1, 0]], 2);
     check_padded(&rt, &BROKEN, 0, &[[1, 2]], 3);
     check_padded::<0>(&rt, &NUMBERS[1..3], 0, &[], 0);
-}
-
-#[test]
-fn same_pieces_as_the_original(rt: HostRuntime) {
-    for (len, wanted) in &BY_FOUR {
-        let answers = NUMBERS.get(..*len).unwrap_or(&[]);
-        check_pieces::<4>(&rt, answers, wanted, len.saturating_add(1));
-    }
     for (len, wanted) in &PADDED_BY_THREE {
         let answers = NUMBERS.get(..*len).unwrap_or(&[]);
         check_padded::<3>(&rt, answers, 99, wanted, len.saturating_add(1));

@@ -68,13 +68,9 @@ fn check_made<K: Eq + Copy + Debug, V: PartialEq + Copy + Debug>(
 }
 
 #[test]
-fn replays_the_script(rt: HostRuntime) {
-    replay(&rt, rt.alloc(), &SCRIPT, &SCRIPT_PAIRS);
-}
-
-#[test]
-fn worked_calls(rt: HostRuntime) {
+fn scripts_of_calls(rt: HostRuntime) {
     let alloc = rt.alloc();
+    replay(&rt, alloc, &SCRIPT, &SCRIPT_PAIRS);
     let calls = [
         (Write(42, 0), None),
         (Insert(42u32, 100u32), None),
@@ -118,9 +114,10 @@ fn maps_of_pairs(rt: HostRuntime) {
     assert!(rt; too_large.is_err());
 }
 
-/// The closure of `get_or_insert_with` is called once for a new key, and not for a known one.
+/// The closure of `get_or_insert_with` is called once for a new key, and not for a known one. A known
+/// key in another spelling finds its pair, which keeps the first spelling.
 #[test]
-fn calls_the_closure_for_a_new_key(rt: HostRuntime) {
+fn new_and_known_keys(rt: HostRuntime) {
     let mut map = LinearMap::new(rt.alloc());
     for (key, given, wanted, calls) in [
         (10u32, 123u32, 123, 1u32),
@@ -138,11 +135,6 @@ fn calls_the_closure_for_a_new_key(rt: HostRuntime) {
         }
         equal(&rt, &called.get(), &calls);
     }
-}
-
-/// A known key in another spelling finds its pair, which keeps the first spelling.
-#[test]
-fn spellings(rt: HostRuntime) {
     let mut map = LinearMap::new(rt.alloc());
     for (name, value, old) in [("Key", 1u32, None), ("KEY", 2, Some(1))] {
         match map.insert(Spelling(name), value) {

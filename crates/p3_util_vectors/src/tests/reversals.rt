@@ -35,13 +35,6 @@ fn check_reversals<T, F: Fn(&T) -> usize>(rt: &impl Abort, list: &mut [T], numbe
     swaps
 }
 
-#[test]
-fn numbers_below_256(rt: HostRuntime) {
-    let mut list = numbers(&rt, rt.alloc(), 256);
-    let swaps = check_reversals(&rt, &mut list, |number| *number as usize);
-    equal(&rt, &swaps, &120);
-}
-
 /// The decimal texts of the numbers from 0 to below `count`.
 fn texts(alloc: Global, count: usize) -> Result<Vec<String>, AllocError> {
     let mut list = Vec::new(alloc);
@@ -52,7 +45,10 @@ fn texts(alloc: Global, count: usize) -> Result<Vec<String>, AllocError> {
 }
 
 #[test]
-fn decimal_texts(rt: HostRuntime) {
+fn numbers_and_texts(rt: HostRuntime) {
+    let mut list = numbers(&rt, rt.alloc(), 256);
+    let swaps = check_reversals(&rt, &mut list, |number| *number as usize);
+    equal(&rt, &swaps, &120);
     for digits in 0..=14u32 {
         let mut list = found(&rt, texts(rt.alloc(), 1usize << digits));
         let _ = check_reversals(&rt, &mut list, |text| text.parse().unwrap_or(usize::MAX));

@@ -60,9 +60,27 @@ fn check_example<T: Item>(
     swaps
 }
 
-/// With items of 1, 3, 8 and 32 bytes.
+/// Lengths, widths of rows, and whether a list of that length consists of such rows and their
+/// number is zero or a power of two.
+const LENGTHS: [(usize, usize, bool); 10] = [
+    (12, 3, true),
+    (9, 3, false),
+    (7, 7, true),
+    (7, 8, false),
+    (0, 0, true),
+    (1, 0, false),
+    (0, usize::MAX, true),
+    (8, 1, true),
+    (6, 1, false),
+    (usize::MAX, usize::MAX, true),
+];
+
+/// Which lengths fit, and each example with items of 1, 3, 8 and 32 bytes.
 #[test]
 fn worked_examples(rt: HostRuntime) {
+    for (row, (len, row_width, wanted)) in LENGTHS.iter().enumerate() {
+        same(&rt, row, &fits_rows(*len, *row_width), wanted);
+    }
     for (row, (call, list, wanted, swaps)) in EXAMPLES.iter().enumerate() {
         let counts = [
             check_example::<u8>(&rt, rt.alloc(), *call, list, wanted),
@@ -171,41 +189,15 @@ fn hashes_of_the_original(rt: HostRuntime) {
     }
 }
 
-/// Two slices, reversed as one list.
+/// Two slices, reversed as one list. A counter counts each step of its holder, and returns the
+/// holder.
 #[test]
-fn joined_slices(rt: HostRuntime) {
+fn joined_slices_and_counters(rt: HostRuntime) {
     let (mut front, mut back) = ([0u64, 1, 2], [3u64, 4, 5, 6, 7]);
     let mut joined = Joined::new(&mut front, &mut back);
     let swaps = count_swaps(&rt, &mut joined, Call::Reversal);
     equal(&rt, &swaps, &2);
     equal(&rt, &(front, back), &([0, 4, 2], [6, 1, 5, 3, 7]));
-}
-
-/// Lengths, widths of rows, and whether a list of that length consists of such rows and their
-/// number is zero or a power of two.
-const LENGTHS: [(usize, usize, bool); 10] = [
-    (12, 3, true),
-    (9, 3, false),
-    (7, 7, true),
-    (7, 8, false),
-    (0, 0, true),
-    (1, 0, false),
-    (0, usize::MAX, true),
-    (8, 1, true),
-    (6, 1, false),
-    (usize::MAX, usize::MAX, true),
-];
-
-#[test]
-fn lengths_of_rows(rt: HostRuntime) {
-    for (row, (len, row_width, wanted)) in LENGTHS.iter().enumerate() {
-        same(&rt, row, &fits_rows(*len, *row_width), wanted);
-    }
-}
-
-/// A counter counts each step of its holder, and returns the holder.
-#[test]
-fn counters(rt: HostRuntime) {
     let mut values = [10u64, 20, 30];
     let mut m = Swaps::new(SlicePlaces::new(&mut values));
     assert!(rt; m.len() == 3);

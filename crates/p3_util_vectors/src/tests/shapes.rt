@@ -22,27 +22,18 @@ fn check_shape<T: Item>(
     check_transposed(rt, &output[..len], shape);
 }
 
-/// Every pair of sides up to 17.
-fn check_sides<T: Item>(rt: &impl Abort, input: &[T], output: &mut [T]) {
-    for k in 0..17 * 17usize {
-        check_shape(rt, input, output, k / 17 + 1, k % 17 + 1);
-    }
-}
-
-/// One row and one column of up to 200 items.
-fn check_lines<T: Item>(rt: &impl Abort, input: &[T], output: &mut [T]) {
-    for len in 1..=200 {
-        check_shape(rt, input, output, len, 1);
-        check_shape(rt, input, output, 1, len);
-    }
-}
-
-/// The same, and the shapes of the original's tests.
+/// Every pair of sides up to 17, one row and one column of up to 200 items, and the shapes of the
+/// original's tests.
 fn check_shapes<T: Item>(rt: &impl Abort, alloc: Global) {
     let input = found(rt, numbered::<T>(alloc, 2003 * 757));
     let mut output = found(rt, input.to_vec(alloc));
-    check_sides(rt, &input, &mut output);
-    check_lines(rt, &input, &mut output);
+    for k in 0..17 * 17usize {
+        check_shape(rt, &input, &mut output, k / 17 + 1, k % 17 + 1);
+    }
+    for len in 1..=200 {
+        check_shape(rt, &input, &mut output, len, 1);
+        check_shape(rt, &input, &mut output, 1, len);
+    }
     for (width, height, _) in TRANSPOSES {
         check_shape(rt, &input, &mut output, width, height);
     }
@@ -51,34 +42,14 @@ fn check_shapes<T: Item>(rt: &impl Abort, alloc: Global) {
 #[test]
 fn of_bytes(rt: HostRuntime) {
     check_shapes::<u8>(&rt, rt.alloc());
-}
-
-#[test]
-fn of_half_words(rt: HostRuntime) {
-    check_shapes::<u32>(&rt, rt.alloc());
-}
-
-#[test]
-fn of_words(rt: HostRuntime) {
-    check_shapes::<u64>(&rt, rt.alloc());
-}
-
-#[test]
-fn of_double_words(rt: HostRuntime) {
-    check_shapes::<u128>(&rt, rt.alloc());
-}
-
-#[test]
-fn of_three_bytes(rt: HostRuntime) {
     check_shapes::<[u8; 3]>(&rt, rt.alloc());
-}
-
-#[test]
-fn of_eight_bytes(rt: HostRuntime) {
     check_shapes::<[u8; 8]>(&rt, rt.alloc());
 }
 
 #[test]
-fn of_four_words(rt: HostRuntime) {
+fn of_numbers(rt: HostRuntime) {
+    check_shapes::<u32>(&rt, rt.alloc());
+    check_shapes::<u64>(&rt, rt.alloc());
+    check_shapes::<u128>(&rt, rt.alloc());
     check_shapes::<[u64; 4]>(&rt, rt.alloc());
 }

@@ -32,16 +32,6 @@ fn transposed_slice(rt: &impl Abort, alloc: Global, input: &[u64], shape: Shape)
     output
 }
 
-#[test]
-fn hashes_of_the_original(rt: HostRuntime) {
-    for (width, height, wanted) in TRANSPOSES {
-        let shape = Shape { width, height };
-        let input = items(&rt, rt.alloc(), shape.len());
-        let output = transposed_slice(&rt, rt.alloc(), &input, shape);
-        same(&rt, width, &hash(&output), &wanted);
-    }
-}
-
 /// Width, height, matrices and their transposes.
 const EXAMPLES: [(usize, usize, &[u64], &[u64]); 3] = [
     (3, 2, &[1, 2, 3, 4, 5, 6], &[1, 4, 2, 5, 3, 6]),
@@ -88,8 +78,15 @@ const NUMBERED: [(usize, usize, u128, &[(usize, u64)]); 7] = [
     (1025, 1024, 1_049_600, &[(1, 1025), (1024, 1)]),
 ];
 
+/// With the hashes of the original's transposes.
 #[test]
 fn numbered_items(rt: HostRuntime) {
+    for (width, height, wanted) in TRANSPOSES {
+        let shape = Shape { width, height };
+        let input = items(&rt, rt.alloc(), shape.len());
+        let output = transposed_slice(&rt, rt.alloc(), &input, shape);
+        same(&rt, width, &hash(&output), &wanted);
+    }
     for (width, height, wanted, places) in NUMBERED {
         let shape = Shape { width, height };
         let input = numbers(&rt, rt.alloc(), shape.len());
@@ -127,9 +124,20 @@ fn nested_splits(rt: HostRuntime) {
     }
 }
 
-/// Two rows of two items in the middle of a matrix, and no row.
+/// The rows of a block, those after the first stage, and those of the block's transpose.
+const STAGES: [[[u8; 4]; 4]; 3] = [
+    [[0, 1, 2, 3], [4, 5, 6, 7], [8, 9, 10, 11], [12, 13, 14, 15]],
+    [[0, 4, 2, 6], [1, 5, 3, 7], [8, 12, 10, 14], [9, 13, 11, 15]],
+    [[0, 4, 8, 12], [1, 5, 9, 13], [2, 6, 10, 14], [3, 7, 11, 15]],
+];
+
+/// Both stages of a block. Of a matrix, two rows of two items in its middle, and no row.
 #[test]
-fn regions(rt: HostRuntime) {
+fn blocks_and_regions(rt: HostRuntime) {
+    let [block, first, turned] = STAGES;
+    equal(&rt, &butterfly_stage1(block), &first);
+    equal(&rt, &butterfly_stage2(first), &turned);
+    equal(&rt, &butterfly_4x4(block), &turned);
     let input = numbers(&rt, rt.alloc(), 12);
     let shape = Shape {
         width: 4,
@@ -163,31 +171,6 @@ fn regions(rt: HostRuntime) {
     );
 }
 
-#[test]
-fn stages_of_a_block(rt: HostRuntime) {
-    let block = [
-        [0u8, 1, 2, 3],
-        [4, 5, 6, 7],
-        [8, 9, 10, 11],
-        [12, 13, 14, 15],
-    ];
-    let first = [
-        [0u8, 4, 2, 6],
-        [1, 5, 3, 7],
-        [8, 12, 10, 14],
-        [9, 13, 11, 15],
-    ];
-    let turned = [
-        [0u8, 4, 8, 12],
-        [1, 5, 9, 13],
-        [2, 6, 10, 14],
-        [3, 7, 11, 15],
-    ];
-    equal(&rt, &butterfly_stage1(block), &first);
-    equal(&rt, &butterfly_stage2(first), &turned);
-    equal(&rt, &butterfly_4x4(block), &turned);
-}
-
 /// The lengths of two lists, widths and heights, and whether both lists have as many items as such
 /// a matrix.
 const LENGTHS: [(usize, usize, usize, usize, bool); 4] = [
@@ -197,20 +180,8 @@ const LENGTHS: [(usize, usize, usize, usize, bool); 4] = [
     (0, 0, 9_223_372_036_854_775_808, 2, false),
 ];
 
-#[test]
-fn products_that_wrap_do_not_fit(rt: HostRuntime) {
-    for (row, (input, output, width, height, wanted)) in LENGTHS.into_iter().enumerate() {
-        same(
-            &rt,
-            row,
-            &fits_matrix(input, output, width, height),
-            &wanted,
-        );
-    }
-}
-
 /// The length of a list, the base of a square, the logarithms of its stride and its side, and
-/// whether the square lies in the list.
+/// whether the square lies in the list. In the last row, the sum for the last place would wrap to 0.
 const SQUARES: [(usize, usize, usize, usize, bool); 12] = [
     (0, 0, 0, 0, false),
     (1, 0, 0, 0, true),
@@ -226,15 +197,6 @@ const SQUARES: [(usize, usize, usize, usize, bool); 12] = [
     (1, (1 << 63) - (1 << 33) + 1, 63, 33, false),
 ];
 
-/// In the last row, the sum for the last place would wrap to 0.
-#[test]
-fn sums_that_wrap_do_not_fit(rt: HostRuntime) {
-    for (row, (len, base, log_stride, log_size, wanted)) in SQUARES.into_iter().enumerate() {
-        let fits = fits_square(len, base, log_stride, log_size);
-        same(&rt, row, &fits, &wanted);
-    }
-}
-
 /// The rows and the columns of regions, each as a first one and the one after the last, and whether
 /// the region lies in a matrix of 3 rows of 4 items.
 const REGIONS: [([usize; 2], [usize; 2], bool); 8] = [
@@ -249,7 +211,19 @@ const REGIONS: [([usize; 2], [usize; 2], bool); 8] = [
 ];
 
 #[test]
-fn regions_of_a_matrix(rt: HostRuntime) {
+fn conditions(rt: HostRuntime) {
+    for (row, (input, output, width, height, wanted)) in LENGTHS.into_iter().enumerate() {
+        same(
+            &rt,
+            row,
+            &fits_matrix(input, output, width, height),
+            &wanted,
+        );
+    }
+    for (row, (len, base, log_stride, log_size, wanted)) in SQUARES.into_iter().enumerate() {
+        let fits = fits_square(len, base, log_stride, log_size);
+        same(&rt, row, &fits, &wanted);
+    }
     for (row, ([row_start, row_end], [col_start, col_end], wanted)) in REGIONS
         .into_iter()
         .enumerate()

@@ -21,13 +21,6 @@ const LENGTHS: [(usize, usize, Option<usize>); 4] = [
     (usize::MAX, 0, Some(0)),
 ];
 
-#[test]
-fn lengths(rt: HostRuntime) {
-    for (row, (count, n, wanted)) in LENGTHS.iter().enumerate() {
-        same(&rt, row, &flat_len(*count, *n), wanted);
-    }
-}
-
 /// Asserts that a view of `rows` has the items `wanted`, by their places and in order.
 fn check_view<const N: usize>(rt: &impl Abort, rows: &[[u64; N]], wanted: &[u64]) {
     assert!(rt; flat_len(rows.len(), N).is_some());
@@ -67,13 +60,12 @@ fn check_views<const N: usize>(rt: &impl Abort, rows: &mut [[u64; N]], wanted: &
 }
 
 #[test]
-fn items_of_views(rt: HostRuntime) {
+fn lengths_and_items(rt: HostRuntime) {
+    for (row, (count, n, wanted)) in LENGTHS.iter().enumerate() {
+        same(&rt, row, &flat_len(*count, *n), wanted);
+    }
     check_views(&rt, &mut [[1, 2, 3], [4, 5, 6]], &[1, 2, 3, 4, 5, 6]);
     check_views::<0>(&rt, &mut [[], [], [], [], []], &[]);
-}
-
-#[test]
-fn writes_through_a_view(rt: HostRuntime) {
     let mut rows = [[1u64, 2], [3, 4]];
     let mut view = as_base_slice_mut(&mut rows);
     if let Some(item) = view.get_mut(3) {
@@ -84,7 +76,7 @@ fn writes_through_a_view(rt: HostRuntime) {
 }
 
 #[test]
-fn reversals_of_a_view(rt: HostRuntime) {
+fn kernels_on_a_view(rt: HostRuntime) {
     let mut rows = [[0u64, 1], [2, 3], [4, 5], [6, 7]];
     let mut view = as_base_slice_mut(&mut rows);
     equal(&rt, &count_swaps(&rt, &mut view, Call::Reversal), &2);
@@ -93,10 +85,6 @@ fn reversals_of_a_view(rt: HostRuntime) {
     let mut view = as_base_slice_mut(&mut rows);
     equal(&rt, &count_swaps(&rt, &mut view, Call::Rows(2)), &2);
     equal(&rt, &rows, &[[0, 1], [4, 5], [2, 3], [6, 7]]);
-}
-
-#[test]
-fn a_transpose_into_a_view(rt: HostRuntime) {
     let mut rows = [[0u64; 2]; 3];
     let mut view = as_base_slice_mut(&mut rows);
     let shape = Shape {
