@@ -12,7 +12,7 @@ pub(crate) use digits::{reverse_bits, reverse_bits_len};
 pub use names::pretty_name;
 
 /// The powers of three below 2^64, in order.
-static POWERS_OF_THREE: [usize; 41] = [
+const POWERS_OF_THREE: [usize; 41] = [
     1,
     3,
     9,
@@ -58,7 +58,7 @@ static POWERS_OF_THREE: [usize; 41] = [
 
 /// Entry `t` is the exponent of the greatest power of three below `2^(t + 1)`. So if bit `t` is the
 /// highest set bit of a power of three, entry `t` is the exponent of that power.
-static EXPONENTS_OF_THREE: [u8; 64] = [
+const EXPONENTS_OF_THREE: [u8; 64] = [
     0, 1, 1, 2, 3, 3, 4, 5, 5, 6, 6, 7, 8, 8, 9, 10, 10, 11, 11, 12, 13, 13, 14, 15, 15, 16, 17,
     17, 18, 18, 19, 20, 20, 21, 22, 22, 23, 23, 24, 25, 25, 26, 27, 27, 28, 29, 29, 30, 30, 31, 32,
     32, 33, 34, 34, 35, 35, 36, 37, 37, 38, 39, 39, 40,
@@ -278,7 +278,8 @@ const fn powers_of_three() -> &'static [usize; 41] {
 /// ```
 #[inline]
 const fn exponent_of_three(top: usize) -> usize {
-    EXPONENTS_OF_THREE[top as core::primitive::usize] as usize
+    let exponents = &EXPONENTS_OF_THREE;
+    exponents[top as core::primitive::usize] as usize
 }
 
 /// The array `[0, 1, .., N - 1]`, in which each item is its own index.
