@@ -147,6 +147,7 @@ fn none_and_one() {
     assert_eq!(reversal::<u8>(&mut [], 3).len(), 0);
     assert_eq!(reversal(&mut [(); 8], 3).len(), 0);
     assert_eq!(row_reversal::<u8>(&mut [], 0, 3).len(), 0);
+    assert_eq!(row_reversal::<u64>(&mut [], usize::MAX, 3).len(), 0);
     assert_eq!(row_reversal(&mut [(); 6], 3, 3).len(), 0);
     for parts in [0, 1] {
         assert_eq!(transpose(&[7; 800], &mut [0; 800], 20, 40, parts).len(), 1);

@@ -9,6 +9,7 @@ use crate::kernels::calls::{Output, transpose_region, transpose_whole};
 #[cfg(feature = "checked")]
 use crate::kernels::choice::row_blocks_of;
 use crate::kernels::choice::{Limits, is_read_far, strips_of};
+use crate::kernels::kernel::{Blocks, Columns, InRows};
 use crate::kernels::places::{Block, Cells, SliceSource, Source};
 use crate::kernels::transpose::{Matrix, PutRegion, Region};
 
@@ -165,7 +166,9 @@ fn check_whole<const N: usize>() {
             _ if width * height < few && size < 1024 && cfg!(not(feature = "checked")) => {
                 (0..width * height).map(Did::Put).collect()
             }
-            _ if width * height < few && size < 1024 => continue,
+            _ if width * height < few && size < 1024 => told::<N>(1, sides, |cells, matrix| {
+                Blocks::<4, _>(Columns).put(cells, matrix, matrix.whole())
+            }),
             _ => told::<N>(1, sides, |cells, matrix| put_strips(cells, matrix, matrix.whole())),
         };
         let by_call = told::<N>(1, sides, |cells, matrix| {
@@ -202,6 +205,15 @@ fn check_parts<const N: usize>() {
         let wanted = if has_lines { [Did::Lines].into() } else { by_leaves };
         assert!(put(64, region) == wanted, "{size} {rows:?} {cols:?}");
     }
+}
+
+/// Four rows are put in the first way, and the two that remain in the second.
+#[test]
+fn rows_that_remain() {
+    let way = InRows::<4, _, _>(Columns, Blocks::<2, _>(Columns));
+    let did = told::<4>(1, [2, 6], |cells, matrix| way.put(cells, matrix, matrix.whole()));
+    let whole = [0, 1, 2, 3, 6, 7, 8, 9].map(Did::Put);
+    assert!(did.iter().eq(whole.iter().chain(&[Did::Block(4, 4)])));
 }
 
 #[test]
