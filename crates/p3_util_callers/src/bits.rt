@@ -84,6 +84,19 @@ pub fn row_and_column(i: usize, rows: usize, cols: usize) -> (usize, usize)
     (i / cols, i % cols)
 }
 
+/// The row and the column of the place at which they are. The item is inside a matrix of `cols`
+/// columns.
+#[tactic(auto, using(p3_util::proofs::Callers::place_row, p3_util::proofs::Callers::place_column))]
+pub fn back_from_place(row: usize, column: usize, cols: usize) -> (usize, usize)
+    requires inside { column < cols }
+    requires fits { row * cols + column < 2 ^ 64 }
+    ensures row { result.0 ≡ row }
+    ensures column { result.1 ≡ column }
+{
+    let place = row * cols + column;
+    (place / cols, place % cols)
+}
+
 /// The place in a list of `2^(k + 1)` items from which a reversal by index bits moves an item to
 /// place `2i`. The item for place `2i + 1` is `2^k` places further.
 #[tactic(auto, using(p3_util::proofs::Callers::rev_even, p3_util::proofs::Callers::rev_odd))]
@@ -202,4 +215,19 @@ pub fn sides_of(n: usize) -> (usize, usize)
 {
     let k = log2_strict_usize(n);
     (1usize << (k / 2), 1usize << (k - k / 2))
+}
+
+/// How many of `n` coefficients are left after `folds` folds by four, or `None` if there are too few.
+#[tactic(auto, using(p3_util::proofs::Callers::power_of_four, p3_util::proofs::Callers::power_in_parts, p3_util::proofs::Callers::shifted_one, p3_util::proofs::Callers::exponent_most))]
+pub fn folded_by_four(n: usize, folds: usize) -> Option<usize>
+    requires power { HasLog2 n }
+    requires few { folds < 2 ^ 32 }
+    ensures some { IfSome result (λ m. m * 4 ^ folds ≡ n) }
+    ensures none { result ≡ None → n < 4 ^ folds }
+{
+    let k = log2_strict_usize(n);
+    if k < 2 * folds {
+        return None;
+    }
+    Some(1usize << (k - 2 * folds))
 }

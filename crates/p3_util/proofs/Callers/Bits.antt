@@ -1,6 +1,7 @@
--- Reversed digits: in two parts, twice, of even and odd numbers, of the first and the last number, of
--- half a number and of a number of more digits; std's test for a power of two; exponents, powers and
--- products of powers; bits of a number; and the row and the column of a place.
+-- Reversed digits: in two parts, twice, of even and odd numbers, of the first and the last number, in
+-- the lower and the upper half, of half a number and of a number of more digits; std's test for a
+-- power of two; exponents, powers and products of powers; bits of a number; and the row and the column
+-- of a place.
 use Rattle.std.proofs.Common.{◌≡◌, ℕ, zero, suc, ◌+◌, ◌-◌, ◌*◌, ◌/◌, ◌%◌, ◌^◌, ◌<◌, ◌≤◌, ◌≢◌, inl, inr, true, refl, sym, ap, ◌∙◌, add-one, arith}
 use Rattle.std.proofs.lemmas.Nat.{div-add-mod', div-mul-add, mod_below, pow-add, pow_pos, mod-mul-add, mul-mod_first}
 use Rattle.std.proofs.Math.Nat.{mod-eq_of_lt, mul-le-mul_right, mul_assoc, pow-suc}
@@ -113,6 +114,28 @@ rev_longer k s i h =
     let whole : 0 * 2 ^ k + i ≡ i = omega arith in
     rw order (rw whole at (rev-parts s k 0 i h) ∙ omega (arith, rev-of-zero s))
 
+-- The lower half of a list of 2 ^ (k + 1) reversed items has the items of even index, and the upper
+-- half those of odd index.
+pub rev_low : (k i : ℕ) → i < 2 ^ k → rev (k + 1) i ≡ 2 * rev k i
+rev_low k i h = omega (arith, rev_longer k 1 i h)
+
+pub rev_up : (k i : ℕ) → i < 2 ^ k → rev (k + 1) (2 ^ k + i) ≡ 2 * rev k i + 1
+rev_up k i h = omega (arith, rev_high k i h, rev_low k i h)
+
+pub low_inside : (k i : ℕ) → i < 2 ^ k → i < 2 ^ (k + 1)
+low_inside k i h =
+    let double : 2 ^ (k + 1) ≡ 2 ^ k * 2 ^ 1 = pow-add 2 k 1 in
+    omega arith
+
+pub up_inside : (k i : ℕ) → i < 2 ^ k → 2 ^ k + i < 2 ^ (k + 1)
+up_inside k i h =
+    let double : 2 ^ (k + 1) ≡ 2 ^ k * 2 ^ 1 = pow-add 2 k 1 in
+    omega arith
+
+pub ruleset lower_half = (rev_low, low_inside)
+
+pub ruleset upper_half = (rev_up, up_inside)
+
 -- A greater exponent has a greater power, and the power of a sum of exponents is the product of two
 -- powers. Numbers of swaps are stated with the logarithm of a power of two.
 pub power_up : {a b : ℕ} → a ≤ b → 2 ^ a ≤ 2 ^ b
@@ -123,6 +146,13 @@ exponent_most a b h = exponent-le a b h
 
 pub power_in_parts : (n a b : ℕ) → n ^ (a + b) ≡ n ^ a * n ^ b
 power_in_parts n a b = pow-add n a b
+
+pub power_of_four : (r : ℕ) → 4 ^ r ≡ 2 ^ (2 * r)
+power_of_four zero = refl
+power_of_four (suc r) =
+    let here : 4 ^ suc r ≡ 4 ^ r * 4 = pow-suc 4 r in
+    let sides : 2 * suc r ≡ 2 * r + 2 = omega arith in
+    rw (here, sides, pow-add 2 (2 * r) 2) (omega (arith, power_of_four r))
 
 pub log_of_power : (n k : ℕ) → n ≡ 2 ^ k → clog n ≡ k
 log_of_power n k e = clog_power n k e
@@ -165,6 +195,13 @@ row_of_place i rows cols h = (row_and_column i rows cols h).0
 
 pub column_of_place : (i rows cols : ℕ) → i < rows * cols → i % cols < cols
 column_of_place i rows cols h = (row_and_column i rows cols h).1
+
+-- the place of a row and a column of a matrix
+pub place_row : (width row column : ℕ) → column < width → (row * width + column) / width ≡ row
+place_row width row column h = div-mul-add row width column h
+
+pub place_column : (width row column : ℕ) → column < width → (row * width + column) % width ≡ column
+place_column width row column h = mod-mul-add row width column h
 
 -- a product of two powers of two: it is a length that can be reversed, it is a power of two, and it
 -- is at least 2 ^ 64 if the exponents add up to 64 or more

@@ -1,10 +1,13 @@
--- That a list has only one transpose; transposing there and back; the first row and column; a matrix
--- of one row or column; matrices one after another; what a region leaves as it was; and a reversal by
--- way of a transpose.
-use Rattle.std.proofs.Common.{◌≡◌, ℕ, ◌+◌, ◌*◌, ◌/◌, ◌%◌, ◌^◌, ◌<◌, ◌≤◌, ◌⊎◌, inl, inr, List, length, take, drop, slice_get, refl, sym, ap, ◌∙◌, arith}
+-- That a list has only one transpose; transposing there and back, also if each item is changed in
+-- between; the first row and column; a matrix of one row or column; matrices one after another; what a
+-- region leaves as it was; and a reversal by way of a transpose.
+use Rattle.std.proofs.Common.{◌≡◌, ℕ, ◌+◌, ◌*◌, ◌/◌, ◌%◌, ◌^◌, ◌<◌, ◌≤◌, ◌⊎◌, inl, inr, List, length, map, take, drop, slice_get, refl, sym, ap, ◌∙◌, arith}
 use Rattle.p3_util_kernels.specs.Transpose.{IsTranspose}
 use Rattle.p3_util_kernels.proofs.TransposeLemmas.Matrix.{IsTranspose-unique, transpose_turned}
 use Rattle.std.proofs.lemmas.Bool.{cases_lt}
+use Rattle.std.proofs.lemmas.List.{length-map}
+use Rattle.std.proofs.lemmas.Option.{slice_get-map}
+use Rattle.std.specs.Option.{option_map}
 use Rattle.std.proofs.lemmas.Nat.{mod_below, pow-add, pow_pos, same_from_place}
 use Rattle.std.proofs.Math.Nat.{div-lt_iff_lt-mul, mod-add-div', mul-le-mul_right}
 use Rattle.p3_util_kernels.specs.Digits.{rev}
@@ -28,6 +31,22 @@ module _ {A : Type 0} where
   pub transposed_back : (width height : ℕ) (old mid new : List A) → IsTranspose width height mid new → IsTranspose height width old mid
       → length old ≡ height * width → new ≡ old
   transposed_back width height old mid new second first fits = IsTranspose-unique width height mid new old second (transpose_turned height width old mid fits first)
+
+  -- the transpose of a list that is changed item by item, and what becomes of a list if its transpose
+  -- is changed so
+  transpose_of_map : (f : A → A) (width height : ℕ) (old new : List A) → IsTranspose width height old new
+      → IsTranspose width height (map f old) (map f new)
+  transpose_of_map f width height old new turned = record {
+    same_length = length-map new f ∙ turned.same_length;
+    places = λ x y hx hy. slice_get-map f new (x * height + y) ∙ ap (option_map f) (turned.places x y hx hy)
+        ∙ sym (slice_get-map f old (y * width + x));
+  }
+
+  pub mapped_in_transpose : (f : A → A) (width height : ℕ) (old mid changed new : List A) → IsTranspose width height changed new
+      → changed ≡ map f mid → IsTranspose height width old mid → length old ≡ height * width → new ≡ map f old
+  mapped_in_transpose f width height old mid changed new second step first fits =
+      transposed_back width height (map f old) (map f mid) new (rw step at second) (transpose_of_map f height width old mid first)
+          (length-map old f ∙ fits)
 
   -- the first row and the first column of a transpose
   pub first_in_rows : (width height x p : ℕ) (old new : List A) → IsTranspose width height old new → p ≡ x * height → x < width → 0 < height
