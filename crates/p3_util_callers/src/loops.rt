@@ -43,6 +43,26 @@ pub fn reduce_in_reversed(vals: &mut [u64], m: u64)
     reverse_slice_index_bits(vals);
 }
 
+/// Transposes `matrix`, reduces each item and transposes back. Each item is then reduced at its own
+/// place.
+#[tactic(auto, using(p3_util::proofs::Callers::mapped_in_transpose))]
+pub fn reduce_in_transpose(
+    matrix: &mut [u64],
+    scratch: &mut [u64],
+    width: usize,
+    height: usize,
+    m: u64,
+)
+    requires some { 0 < m }
+    requires matrix { length matrix.old ≡ width * height }
+    requires scratch { length scratch.old ≡ width * height }
+    ensures { matrix.new ≡ map (λ x. x % m) matrix.old }
+{
+    transpose(matrix, scratch, width, height);
+    reduce_each(scratch, m);
+    transpose(scratch, matrix, height, width);
+}
+
 /// Replaces the items at `2i` and `2i + 1` with their sum and their difference, modulo `m`. One
 /// step of the loop is a function of its own, so that the loop needs a proof file only for its
 /// invariant.

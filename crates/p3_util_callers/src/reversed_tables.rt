@@ -23,6 +23,28 @@ pub fn reorder_evaluations<T>(evals: &mut [T])
     reverse_slice_index_bits(evals);
 }
 
+/// The same for a table of `2^k` items. A call of this function is about one exponent.
+fn reorder_by<T>(table: &mut [T], k: usize)
+    requires { length table.old ≡ 2 ^ k }
+    ensures { (i : ℕ) → i < 2 ^ k → slice_get table.new i ≡ slice_get table.old (rev k i) }
+{
+    reverse_slice_index_bits(table);
+}
+
+/// Puts a table into the order of reversed index bits. Then its lower half has the items of even
+/// index, and its upper half those of odd index.
+#[tactic(auto, using(p3_util::proofs::Callers::lower_half, p3_util::proofs::Callers::upper_half))]
+pub fn even_then_odd<T>(table: &mut [T], k: usize)
+    requires few { k < 64 }
+    requires len { length table.old ≡ 2 ^ (k + 1) }
+    ensures even { (i : ℕ) → i < 2 ^ k
+        → slice_get table.new i ≡ slice_get table.old (2 * rev k i) }
+    ensures odd { (i : ℕ) → i < 2 ^ k
+        → slice_get table.new (2 ^ k + i) ≡ slice_get table.old (2 * rev k i + 1) }
+{
+    reorder_by(table, k + 1);
+}
+
 /// Reorders the table, and returns the place to which the item at `i` goes. The number of bits is
 /// the logarithm of the length.
 #[tactic(auto, using(p3_util::proofs::Callers::item_moved))]
