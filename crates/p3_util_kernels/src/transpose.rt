@@ -22,8 +22,8 @@ ghost use Rattle.p3_util_kernels.specs.Transpose.{IsTranspose};
 // `counted` has the calls over any holder and over counters. `regions` defines matrices and regions.
 // `ways` has the ways to put a region, which contain each other. `strips` puts a region strip by strip
 // in such ways: begin at `Strips::by_shape` if you want to change the strips. `order` is what the caller
-// of a kernel chooses: columns, strips, or the leaves of `split`, which halves a region until its parts
-// are small or narrow. `square` transposes a square in place, for the long path of a bit reversal. No
+// of a kernel chooses: strips, or the leaves of `split`, which halves a region until its parts are small
+// or narrow. `square` transposes a square in place, for the long path of a bit reversal. No
 // kernel uses `butterfly`.
 mod butterfly;
 mod counted;

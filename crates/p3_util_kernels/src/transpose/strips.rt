@@ -14,7 +14,7 @@ use crate::places::{Cells, Source};
 use crate::transpose::regions::{Matrix, Region};
 use crate::transpose::ways::{Blocks, Columns, InCols, InRows, Outlined, PutRegion};
 
-/// If the width of a matrix is a multiple of this, its strips are low. Parts of a call begin at
+/// If the width of a matrix is a multiple of this, its strips are low. Parts of a transpose begin at
 /// multiples of it.
 #[doc(hidden)]
 pub const UNIT: usize = 16;

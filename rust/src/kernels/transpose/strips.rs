@@ -15,7 +15,7 @@ use crate::kernels::places::{Cells, Source};
 use crate::kernels::transpose::regions::{Matrix, Region};
 use crate::kernels::transpose::ways::{Blocks, Columns, InCols, InRows, Outlined, PutRegion};
 
-/// If the width of a matrix is a multiple of this, its strips are low. Parts of a call begin at
+/// If the width of a matrix is a multiple of this, its strips are low. Parts of a transpose begin at
 /// multiples of it.
 pub(crate) const UNIT: usize = 16;
 
