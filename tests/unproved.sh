@@ -1,6 +1,6 @@
 #!/usr/bin/env bash
 # Runs the tests of tests/unproved without a proof, in a copy of the crates: those of the library, which are a crate of their
-# own, and those of the program and of the example p3_util_transform.
+# own, those of the program, next to its proved ones, and those of the example p3_util_transform.
 #
 #     tests/unproved.sh [FLAG..]
 #     tests/unproved.sh --refused
@@ -51,13 +51,16 @@ tests_of() {
     for file in $(cd "$2" && find . -name '*.rt.in'); do
         cp "$2/$file" "$src/${file%.in}"
     done
-    [[ $3 = lib.rt.in ]] || printf '\n#[cfg(test)]\nmod tests;\n' >>"$src/$3"
-    [[ $3 != lib.rt.in ]] || cp -a tests/unproved/c "$copy/crates/$1/"
-    written=$(find "$2" -name '*.rt.in' -exec cat {} + | grep -c '^#\[test\]$')
+    case $3 in
+        lib.rt.in) cp -a tests/unproved/c "$copy/crates/$1/" ;;
+        tests.rt) printf '\nmod unproved;\n' >>"$src/$3" ;;
+        *) printf '\n#[cfg(test)]\nmod tests;\n' >>"$src/$3" ;;
+    esac
+    written=$(find "$src" -name '*.rt' -exec cat {} + | grep -c '^#\[test\]$')
     (cd "$copy/crates/$1" && rt try --test "${@:4}") | tee "$copy/printed"
-    grep -qx "tests: $written" "$copy/printed" || { echo "FAILED  $written tests are written in $2" && exit 1; }
+    grep -qx "tests: $written" "$copy/printed" || { echo "FAILED  $written tests are written in $1" && exit 1; }
 }
 
 tests_of p3_util_unproved tests/unproved/src lib.rt.in "$@"
-tests_of p3_util_run tests/unproved/p3_util_run main.rt "$@"
+tests_of p3_util_run tests/unproved/p3_util_run tests.rt "$@"
 tests_of p3_util_transform tests/unproved/p3_util_transform lib.rt "$@"

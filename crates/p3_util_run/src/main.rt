@@ -9,6 +9,8 @@
 mod arrays;
 mod fault;
 mod program;
+#[cfg(test)]
+mod tests;
 mod watched;
 mod words;
 

@@ -1,0 +1,380 @@
+//! The worked rows of the program, and runs over readers and writers that pass on one byte a call,
+//! fail, or take no byte.
+
+use crate::fault::RunFault;
+use crate::program::run;
+use crate::watched::Watched;
+use std::alloc::{AllocError, Global};
+use std::io::{ErrorKind, Read, Write};
+use std::process::Abort;
+use std::{io, str};
+
+/// A reader that yields one byte a call. After `good_reads` of them, one call fails, or yields no
+/// byte if there is no `failure`.
+#[derive(Drop)]
+struct ByteReader<'a> {
+    rest: &'a [u8],
+    good_reads: u8,
+    failure: Option<ErrorKind>,
+}
+
+impl Read for ByteReader<'_> {
+    fn read(&mut self, buf: &mut [u8]) -> io::Result<usize> {
+        if self.good_reads == 0 {
+            self.good_reads = u8::MAX;
+            return match self.failure {
+                Some(kind) => Err(io::Error::from(kind)),
+                None => Ok(0),
+            };
+        }
+        self.good_reads -= 1;
+        match (self.rest, buf) {
+            ([first, rest @ ..], [to, ..]) => {
+                *to = *first;
+                self.rest = rest;
+                Ok(1)
+            }
+            _ => Ok(0),
+        }
+    }
+}
+
+/// A writer that takes one byte a call. After `good_writes` of them, one call fails, or takes no
+/// byte if there is no `failure`. Its flushes fail if `flushes` is false.
+#[derive(Drop)]
+struct ByteWriter {
+    taken: Vec<u8>,
+    good_writes: u8,
+    failure: Option<ErrorKind>,
+    flushes: bool,
+}
+
+impl Write for ByteWriter {
+    fn write(&mut self, buf: &[u8]) -> io::Result<usize> {
+        if self.good_writes == 0 {
+            self.good_writes = u8::MAX;
+            return match self.failure {
+                Some(kind) => Err(io::Error::from(kind)),
+                None => Ok(0),
+            };
+        }
+        self.good_writes -= 1;
+        match buf {
+            [first, ..] => {
+                self.taken.push(*first)?;
+                Ok(1)
+            }
+            [] => Ok(0),
+        }
+    }
+
+    fn flush(&mut self) -> io::Result<()> {
+        if self.flushes {
+            Ok(())
+        } else {
+            Err(io::Error::from(ErrorKind::Other))
+        }
+    }
+}
+
+/// Arguments, the input, what is printed, and the status.
+type Row = (&'static [&'static str], &'static [u8], &'static str, u8);
+
+fn owned(alloc: Global, texts: &[&str]) -> Result<Vec<String>, AllocError> {
+    let mut words = Vec::new(alloc);
+    for text in texts {
+        words.push(String::from_str(alloc, text)?)?;
+    }
+    Ok(words)
+}
+
+/// The text of these bytes, to be printed.
+fn shown(bytes: &[u8]) -> &str {
+    str::from_utf8(bytes).unwrap_or("bytes that are no UTF-8")
+}
+
+/// Asserts that a run wrote the output of its row, or that it wrote nothing and its fault has this
+/// text and status.
+fn check_printed(
+    rt: &impl Abort,
+    alloc: Global,
+    row: &Row,
+    ended: &Result<(), RunFault>,
+    written: &[u8],
+) -> Result<(), AllocError> {
+    let (words, input, output, status) = *row;
+    let (got, text) = match ended {
+        Ok(()) => (0, String::from_str(alloc, shown(written))?),
+        Err(fault) => (fault.status(), fault.to_string(alloc)?),
+    };
+    assert_eq!(rt;
+        (got, text.as_str()),
+        (status, output),
+        "{words:?} on {}",
+        shown(input)
+    );
+    assert!(rt;
+        got == 0 || written.is_empty(),
+        "{words:?} on {}",
+        shown(input)
+    );
+    Ok(())
+}
+
+/// Asserts what is printed for a row, from memory and by one byte a call.
+fn check_row(rt: &impl Abort, alloc: Global, row: &Row) -> Result<(), AllocError> {
+    let (words, input, _, _) = *row;
+    let words = owned(alloc, words)?;
+    let mut writer = Watched::new(Vec::new(alloc));
+    let mut reader = Watched::new(input);
+    let result = run(alloc, &words, &mut reader, &mut writer);
+    check_printed(rt, alloc, row, &result, &writer.into_inner())?;
+
+    let mut reader = Watched::new(ByteReader {
+        rest: input,
+        good_reads: u8::MAX,
+        failure: None,
+    });
+    let mut writer = Watched::new(ByteWriter {
+        taken: Vec::new(alloc),
+        good_writes: u8::MAX,
+        failure: None,
+        flushes: true,
+    });
+    let result = run(alloc, &words, &mut reader, &mut writer);
+    check_printed(rt, alloc, row, &result, &writer.into_inner().taken)
+}
+
+const NOT_AN_ARRAY: &str = "error: input is not a JSON array of u64";
+
+const UNKNOWN: &str = "error: unknown command";
+
+/// The rows: reversals, reversals of rows, transposes, arguments that name no command, and inputs
+/// that are no array of numbers.
+const ROWS: [Row; 55] = [
+    (&["revbits"], b"[]", "[]\n", 0),
+    (&["revbits"], b"[7]", "[7]\n", 0),
+    (&["revbits"], b" [ 1 , 2 ] ", "[1,2]\n", 0),
+    (&["revbits"], b"[0,1,2,3,4,5,6,7]", "[0,4,2,6,1,5,3,7]\n", 0),
+    (
+        &["revbits"],
+        b"[18446744073709551615]",
+        "[18446744073709551615]\n",
+        0,
+    ),
+    (
+        &["revbits"],
+        b"[1,2,3]",
+        "error: length 3 is neither zero nor a power of two",
+        2,
+    ),
+    (
+        &["revrows", "2"],
+        b"[0,1,2,3,4,5,6,7]",
+        "[0,1,4,5,2,3,6,7]\n",
+        0,
+    ),
+    (
+        &["revrows", "1"],
+        b"[0,1,2,3,4,5,6,7]",
+        "[0,4,2,6,1,5,3,7]\n",
+        0,
+    ),
+    (
+        &["revrows", "8"],
+        b"[0,1,2,3,4,5,6,7]",
+        "[0,1,2,3,4,5,6,7]\n",
+        0,
+    ),
+    (
+        &["revrows", "003"],
+        b"[0,1,2,3,4,5,6,7,8,9,10,11]",
+        "[0,1,2,6,7,8,3,4,5,9,10,11]\n",
+        0,
+    ),
+    (&["revrows", "0"], b"[]", "[]\n", 0),
+    (&["revrows", "18446744073709551615"], b"[]", "[]\n", 0),
+    (
+        &["revrows", "0"],
+        b"[1]",
+        "error: length 1 is not 0 times zero or a power of two",
+        2,
+    ),
+    (
+        &["revrows", "3"],
+        b"[1,2,3,4]",
+        "error: length 4 is not 3 times zero or a power of two",
+        2,
+    ),
+    (
+        &["revrows", "3"],
+        b"[1,2,3,4,5,6,7,8,9]",
+        "error: length 9 is not 3 times zero or a power of two",
+        2,
+    ),
+    (
+        &["revrows", "18446744073709551615"],
+        b"[0,1,2,3,4,5,6,7]",
+        "error: length 8 is not 18446744073709551615 times zero or a power of two",
+        2,
+    ),
+    (&["revrows", "1"], b"[1,", NOT_AN_ARRAY, 2),
+    (&["revrows", "x"], b"[]", UNKNOWN, 2),
+    (&["revrows", ""], b"[]", UNKNOWN, 2),
+    (&["revrows", "18446744073709551616"], b"[]", UNKNOWN, 2),
+    (
+        &["transpose", "3", "2"],
+        b"[1,2,3,4,5,6]",
+        "[1,4,2,5,3,6]\n",
+        0,
+    ),
+    (&["transpose", "0", "5"], b"[]", "[]\n", 0),
+    (
+        &["transpose", "1", "6"],
+        b"[1,2,3,4,5,6]",
+        "[1,2,3,4,5,6]\n",
+        0,
+    ),
+    (
+        &["transpose", "007", "1"],
+        b"[1,2,3,4,5,6,7]",
+        "[1,2,3,4,5,6,7]\n",
+        0,
+    ),
+    (
+        &["transpose", "2", "2"],
+        b"[1]",
+        "error: 2 by 2 is not the length 1",
+        2,
+    ),
+    (
+        &["transpose", "4294967296", "4294967296"],
+        b"[]",
+        "error: 4294967296 by 4294967296 is not the length 0",
+        2,
+    ),
+    (
+        &["transpose", "18446744073709551615", "2"],
+        b"[]",
+        "error: 18446744073709551615 by 2 is not the length 0",
+        2,
+    ),
+    (&["transpose", "2", "x"], b"[]", UNKNOWN, 2),
+    (&["transpose", "+1", "1"], b"[1]", UNKNOWN, 2),
+    (&["transpose", "1", ""], b"[]", UNKNOWN, 2),
+    (
+        &["transpose", "18446744073709551616", "1"],
+        b"[]",
+        UNKNOWN,
+        2,
+    ),
+    (&["transpose", "1", "1"], b"[1.0]", NOT_AN_ARRAY, 2),
+    (&[], b"[1]", UNKNOWN, 2),
+    (&["revbits", "x"], b"[1]", UNKNOWN, 2),
+    (&["revrows"], b"[1]", UNKNOWN, 2),
+    (&["revrows", "1", "1"], b"[1]", UNKNOWN, 2),
+    (&["Revbits"], b"[1]", UNKNOWN, 2),
+    (&["transpose", "1"], b"[1]", UNKNOWN, 2),
+    (&["revbits", "1", "1"], b"[1]", UNKNOWN, 2),
+    (&["transpose", "1", "1", "1"], b"[1]", UNKNOWN, 2),
+    (&["revbits"], b"", NOT_AN_ARRAY, 2),
+    (&["revbits"], b"[1,2", NOT_AN_ARRAY, 2),
+    (&["revbits"], b"[-1]", NOT_AN_ARRAY, 2),
+    (&["revbits"], b"[1.5]", NOT_AN_ARRAY, 2),
+    (&["revbits"], b"[1.0]", NOT_AN_ARRAY, 2),
+    (&["revbits"], b"[[1]]", NOT_AN_ARRAY, 2),
+    (&["revbits"], b"[1,2]x", NOT_AN_ARRAY, 2),
+    (&["revbits"], b"{\"a\":1}", NOT_AN_ARRAY, 2),
+    (&["revbits"], b"[1,\"2\"]", NOT_AN_ARRAY, 2),
+    (&["revbits"], b"[1,]", NOT_AN_ARRAY, 2),
+    (&["revbits"], b"1", NOT_AN_ARRAY, 2),
+    (&["revbits"], b"[18446744073709551616]", NOT_AN_ARRAY, 2),
+    (&["revbits"], b"[true]", NOT_AN_ARRAY, 2),
+    (&["revbits"], &[0xff], NOT_AN_ARRAY, 2),
+    (&["revbits"], &[b'['; 200], NOT_AN_ARRAY, 2),
+];
+
+/// A `run` that always returns `Memory` fails here.
+#[test]
+fn rows(rt: HostRuntime) -> Result<(), AllocError> {
+    for row in &ROWS {
+        check_row(&rt, rt.alloc(), row)?;
+    }
+    Ok(())
+}
+
+/// A run on a list of two numbers that ends with a fault: what its reader and its writer do, the
+/// fault, and the numbers of failures.
+struct Failing {
+    good_reads: u8,
+    good_writes: u8,
+    failure: Option<ErrorKind>,
+    fault: RunFault,
+    failures: (u64, u64),
+}
+
+/// Asserts that the first failure ends a run and is counted once, even if the next call would
+/// succeed. Returns the number of bytes that were written.
+fn check_failure(rt: &impl Abort, alloc: Global, failing: Failing) -> Result<usize, AllocError> {
+    let Failing {
+        good_reads,
+        good_writes,
+        failure,
+        fault,
+        failures,
+    } = failing;
+    let mut reader = Watched::new(ByteReader {
+        rest: b"[1,2]",
+        good_reads,
+        failure,
+    });
+    let mut writer = Watched::new(ByteWriter {
+        taken: Vec::new(alloc),
+        good_writes,
+        failure,
+        flushes: false,
+    });
+    let words = owned(alloc, &["revbits"])?;
+    let result = run(alloc, &words, &mut reader, &mut writer);
+    let calls = (good_reads, good_writes);
+    assert_eq!(rt; result, Err(fault), "after {calls:?} calls");
+    assert_eq!(rt;
+        (reader.failures(), writer.failures()),
+        failures,
+        "after {calls:?} calls"
+    );
+    Ok(writer.into_inner().taken.len())
+}
+
+/// A `Watched` that tries again, or fails without a call, fails here.
+#[test]
+fn failures(rt: HostRuntime) -> Result<(), AllocError> {
+    let alloc = rt.alloc();
+    for kind in [ErrorKind::Other, ErrorKind::Interrupted] {
+        for calls in 0..6 {
+            let failing = Failing {
+                good_reads: calls,
+                good_writes: u8::MAX,
+                failure: Some(kind),
+                fault: RunFault::Read,
+                failures: (1, 0),
+            };
+            let written = check_failure(&rt, alloc, failing)?;
+            assert_eq!(rt; written, 0);
+        }
+    }
+    for failure in [Some(ErrorKind::Other), Some(ErrorKind::Interrupted), None] {
+        for calls in 0..7 {
+            let failing = Failing {
+                good_reads: u8::MAX,
+                good_writes: calls,
+                failure,
+                fault: RunFault::Write,
+                failures: (0, 1),
+            };
+            let written = check_failure(&rt, alloc, failing)?;
+            assert_eq!(rt; written, usize::from(calls));
+        }
+    }
+    Ok(())
+}
