@@ -16,15 +16,18 @@ use p3_util_proved::transpose::transpose;
 /// The least stack that a thread can have, in bytes. It has no room for an item of 64 KiB.
 const LEAST: usize = 1 << 16;
 
-/// The stack for a call on items of this many bytes.
-const fn stack_for(size: usize) -> usize {
+/// The stack for a call on items of this many bytes. In a release build it has room for so many items more.
+const fn stack_for(size: usize, items: usize) -> usize {
     match size {
-        _ if cfg!(not(any(debug_assertions, unoptimized))) => LEAST,
+        ..=64 if RELEASE => LEAST,
+        _ if RELEASE => LEAST + items * size,
         ..=64 if cfg!(debug_assertions) => 96 << 10,
         ..=64 => 224 << 10,
         _ => LEAST + 3 * size,
     }
 }
+
+const RELEASE: bool = cfg!(not(any(debug_assertions, unoptimized)));
 
 /// An item of `SIZE` bytes with this number in its first bytes, as far as it has room.
 fn item<const SIZE: usize>(number: usize) -> [u8; SIZE] {
@@ -44,9 +47,10 @@ fn have<const SIZE: usize>(items: &[[u8; SIZE]], numbers: impl IntoIterator<Item
 }
 
 /// Makes a call on a thread with a small stack. If it needs more, the test program is aborted.
-fn on_a_small_stack<const SIZE: usize>(call: impl FnOnce() + Send) {
+fn on_a_small_stack<const SIZE: usize, const ITEMS: usize>(call: impl FnOnce() + Send) {
     scope(|threads| {
-        let thread = Builder::new().stack_size(stack_for(SIZE)).spawn_scoped(threads, call);
+        let stack = stack_for(SIZE, ITEMS);
+        let thread = Builder::new().stack_size(stack).spawn_scoped(threads, call);
         thread.unwrap().join().unwrap();
     });
 }
@@ -56,13 +60,13 @@ fn check_transposes<const SIZE: usize>(more: &[(usize, usize)]) {
     for (width, height) in shapes.into_iter().chain(more.iter().copied()) {
         let input = numbered::<SIZE>(width * height);
         let mut output = numbered::<SIZE>(width * height);
-        on_a_small_stack::<SIZE>(|| transpose(&input, &mut output, width, height));
+        on_a_small_stack::<SIZE, 0>(|| transpose(&input, &mut output, width, height));
         let wanted = (0..width * height).map(|place| transposed(width, height, place));
         assert!(have(&output, wanted.clone()), "{width} by {height}");
         #[cfg(target_pointer_width = "64")]
         output.reverse();
         #[cfg(target_pointer_width = "64")]
-        on_a_small_stack::<SIZE>(|| {
+        on_a_small_stack::<SIZE, 0>(|| {
             parts::transpose(&input, &mut output, width, height, 3).for_each(|part| part.run())
         });
         assert!(have(&output, wanted), "{width} by {height}, in parts");
@@ -89,8 +93,6 @@ fn transposes_of_small_items() {
     check_transposes::<32>(&more);
 }
 
-/// With the feature `checked` in a release build, std's `swap` makes the exchanges, and it does need room for one item.
-#[cfg(any(debug_assertions, not(any(feature = "checked", target_pointer_width = "32"))))]
 mod reversals {
     #[cfg(target_pointer_width = "64")]
     use p3_util_proved::parts;
@@ -99,15 +101,23 @@ mod reversals {
     use super::common::reversed;
     use super::{have, numbered, on_a_small_stack};
 
+    /// How many items a reversal has on the stack in a release build. With the feature `checked`, std's `swap` makes the
+    /// exchanges. On 32 bits, the compiler may inline the kernels.
+    const ITEMS: usize = match () {
+        _ if cfg!(target_pointer_width = "32") => 2,
+        _ if cfg!(feature = "checked") => 1,
+        _ => 0,
+    };
+
     fn check_reversals<const SIZE: usize>(more: &[u32]) {
         for bits in [1, 4, 7, 8].into_iter().chain(more.iter().copied()) {
             let mut items = numbered::<SIZE>(1 << bits);
-            on_a_small_stack::<SIZE>(|| reverse_slice_index_bits(&mut items));
+            on_a_small_stack::<SIZE, ITEMS>(|| reverse_slice_index_bits(&mut items));
             let wanted = (0..1 << bits).map(|place| reversed(bits, place));
             assert!(have(&items, wanted), "2^{bits} items of {SIZE} bytes");
             #[cfg(target_pointer_width = "64")]
             {
-                on_a_small_stack::<SIZE>(|| parts::reversal(&mut items, 3).for_each(|part| part.run()));
+                on_a_small_stack::<SIZE, ITEMS>(|| parts::reversal(&mut items, 3).for_each(|part| part.run()));
                 assert!(have(&items, 0..1 << bits), "2^{bits} items of {SIZE} bytes, in parts");
             }
         }
@@ -116,16 +126,18 @@ mod reversals {
     /// Reverses empty lists too. A call may need stack for a kernel that it does not run.
     fn check_rows<const SIZE: usize>() {
         for width in [1, 2, 3, 4, 8, 16, 32] {
-            on_a_small_stack::<SIZE>(|| reverse_slice_row_index_bits::<[u8; SIZE]>(&mut [], width));
+            on_a_small_stack::<SIZE, ITEMS>(|| reverse_slice_row_index_bits::<[u8; SIZE]>(&mut [], width));
             for bits in [1, 3] {
                 let mut items = numbered::<SIZE>(width << bits);
-                on_a_small_stack::<SIZE>(|| reverse_slice_row_index_bits(&mut items, width));
+                on_a_small_stack::<SIZE, ITEMS>(|| reverse_slice_row_index_bits(&mut items, width));
                 let wanted = (0..width << bits).map(|place| reversed(bits, place / width) * width + place % width);
                 let name = format!("2^{bits} rows of {width} items of {SIZE} bytes");
                 assert!(have(&items, wanted), "{name}");
                 #[cfg(target_pointer_width = "64")]
                 {
-                    on_a_small_stack::<SIZE>(|| parts::row_reversal(&mut items, width, 3).for_each(|part| part.run()));
+                    on_a_small_stack::<SIZE, ITEMS>(|| {
+                        parts::row_reversal(&mut items, width, 3).for_each(|part| part.run())
+                    });
                     assert!(have(&items, 0..width << bits), "{name}, in parts");
                 }
             }
