@@ -101,12 +101,12 @@ mod reversals {
     use super::common::reversed;
     use super::{have, numbered, on_a_small_stack};
 
-    /// How many items a reversal has on the stack in a release build. With the feature `checked`, std's `swap` makes the
-    /// exchanges. On 32 bits, the compiler may inline the kernels.
-    const ITEMS: usize = match () {
-        _ if cfg!(target_pointer_width = "32") => 2,
-        _ if cfg!(feature = "checked") => 1,
-        _ => 0,
+    /// How many items a reversal has room for on the stack in a release build. With the feature `checked`, std's `swap` makes
+    /// the exchanges. On 32 bits, the compiler may inline the kernels.
+    const ITEMS: usize = if cfg!(any(feature = "checked", target_pointer_width = "32")) {
+        2
+    } else {
+        0
     };
 
     fn check_reversals<const SIZE: usize>(more: &[u32]) {
