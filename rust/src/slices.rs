@@ -4,7 +4,8 @@
 //! It is proved that a kernel whose own precondition holds meets the preconditions of the steps of every holder. So
 //! `holders.rs` and its folder, which have all the unsafe code, check no index. With the feature `checked`, the holders of
 //! `checked.rs` are used instead, which check each one. Proved code chooses how a matrix is put, in `kernels/calls.rs`.
-//! `by_size.rs` and `by_type.rs` choose the instance of a kernel.
+//! `by_size.rs` chooses the instance of a kernel, or of a part, from those of `by_type.rs` and `part_by_type.rs`. With
+//! `checked` and on 32 bits there is none for each size.
 //!
 //! On a system of 32 bits, `narrow.rs` has the holders: those of the kernels, which check each index too.
 
@@ -13,19 +14,21 @@ use crate::kernels::transpose::fits_matrix;
 use crate::width::Index;
 use holders::{SliceItems, SliceSource, WholeList};
 
-#[cfg(not(any(feature = "checked", target_pointer_width = "32")))]
-mod by_size;
 mod by_type;
 #[cfg_attr(target_pointer_width = "32", path = "slices/narrow.rs")]
 #[cfg_attr(all(feature = "checked", target_pointer_width = "64"), path = "slices/checked.rs")]
 #[cfg_attr(not(feature = "checked"), allow(unsafe_code))]
 mod holders;
+#[cfg_attr(feature = "checked", path = "slices/types_alone.rs")]
+#[cfg_attr(not(feature = "checked"), path = "slices/by_size.rs")]
+#[cfg(target_pointer_width = "64")]
+mod instances;
+#[cfg(target_pointer_width = "64")]
+mod part_by_type;
 #[cfg(target_pointer_width = "64")]
 pub mod parts;
 
-#[cfg(not(any(feature = "checked", target_pointer_width = "32")))]
-use by_size as instances;
-#[cfg(any(feature = "checked", target_pointer_width = "32"))]
+#[cfg(target_pointer_width = "32")]
 use by_type as instances;
 
 /// Reverses the order of `vals` by index bits.

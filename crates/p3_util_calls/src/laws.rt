@@ -1,13 +1,35 @@
-//! What all parts of a call are together. No other code calls this: it is there for its contract, and the package is made
-//! without it.
+//! What the parts of a call are, alone and together. No other code calls the functions of this module, and the package is made
+//! without them: each is there for its contract.
+//!
+//! **Several threads.** [`exchanges_of_part`] says that a part of a reversal makes such steps as the law of
+//! `p3_util_parts::parts::laws` is about. So that law holds for the function that the package calls: however the steps of all parts
+//! are interleaved, their effect is that of the call.
+//!
+//! **One thread.** [`put_parts`] and [`reverse_parts`] make all parts that are handed out, one after the other, in any holder.
 
-ghost use Rattle.std.specs.Prelude.{◌≡◌, ◌*◌, length};
+ghost use Rattle.std.specs.Prelude.{◌≡◌, ℕ, ◌*◌, ◌^◌, ◌<◌, List, length};
+ghost use Rattle.p3_util_kernels.specs.Least.{after_swaps};
+ghost use Rattle.p3_util_kernels.specs.Reversal.{IsRowReversal};
+ghost use Rattle.p3_util_kernels.specs.SwapCounts.{row_swaps};
 ghost use Rattle.p3_util_kernels.specs.Transpose.{IsTranspose};
+ghost use Rattle.p3_util_parts.specs.Interleaved.{IsMadeAlone};
+ghost use Rattle.p3_util_parts.specs.Plans.{IsReversalPlan, width_of};
 
 use crate::calls::Output;
-use crate::part::transpose_part;
-use p3_util_kernels::places::Source;
-use p3_util_parts::parts::{PartsLeft, TransposePlan};
+use crate::part::{reverse_part, transpose_part};
+use p3_util_kernels::places::{Places, Source};
+use p3_util_parts::parts::laws::ExchangeSteps;
+use p3_util_parts::parts::{Part, PartsLeft, ReversalPlan, TransposePlan};
+
+/// Each part of a reversal has steps: some exchanges that have the effect of the part, as many as the part takes.
+pub(crate) fn exchanges_of_part<M: Places>(items: M, part: Part<ReversalPlan>) -> M
+    requires plan { IsReversalPlan (length (M.items items)) part.plan }
+    requires len_fits { length (M.items items) < 2 ^ 64 }
+    ensures { (steps : List (ℕ × ℕ)) × (M.items result ≡ after_swaps (M.items items) steps)
+        × IsMadeAlone part.plan part.number (M.items items) steps }
+{
+    reverse_part(ExchangeSteps { places: items }, part).places
+}
 
 /// Puts each part that is handed out, as one thread may do. In any holder, whatever it says of itself, this is the transpose, by
 /// as many puts as there are items.
@@ -27,4 +49,20 @@ pub(crate) fn put_parts<M: Output, R: Source<Item = M::Item> + Copy>(
         cells = transpose_part(cells, source, part);
     }
     cells
+}
+
+/// Makes each part of a reversal that is handed out, as one thread may do. In any holder this is the reversal, by as many
+/// exchanges as the reversal that is not cut.
+pub(crate) fn reverse_parts<M: Places>(items: M, plan: ReversalPlan) -> M
+    requires plan { IsReversalPlan (length (M.items items)) plan }
+    requires len_fits { length (M.items items) < 2 ^ 64 }
+    ensures reversed { IsRowReversal (width_of plan) (M.items items) (M.items result) }
+    ensures holder { M.same_holder (row_swaps (length (M.items items)) (width_of plan)) items result }
+{
+    let mut left = PartsLeft::of(plan);
+    let mut items = items;
+    while let Some(part) = left.hand_out() {
+        items = reverse_part(items, part);
+    }
+    items
 }

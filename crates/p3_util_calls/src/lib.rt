@@ -2,6 +2,7 @@
 //! a call in Rattle knows nothing of the size of an item.
 #![tactic(auto)]
 
+pub(crate) mod bytes;
 pub(crate) mod calls;
 pub(crate) mod choice;
 mod laws;

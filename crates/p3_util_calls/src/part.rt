@@ -1,13 +1,13 @@
-//! What a part of a transpose does.
+//! What a part of a call does.
 
-ghost use Rattle.std.specs.Prelude.{◌≡◌, ◌*◌, length};
+ghost use Rattle.std.specs.Prelude.{◌≡◌, ◌*◌, ◌^◌, ◌<◌, length};
 ghost use Rattle.p3_util_kernels.specs.Region.{IsRegionTransposed, items_of};
 ghost use Rattle.p3_util_parts.specs.Interleaved.{region_of};
+ghost use Rattle.p3_util_parts.specs.Plans.{IsPartMade, IsReversalPlan};
 
-use crate::calls::{Output, transpose_region};
-use p3_util_kernels::kernel::Matrix;
-use p3_util_kernels::places::Source;
-use p3_util_parts::parts::{Part, TransposePlan};
+use crate::calls::{Output, reverse_rows, transpose_region};
+use p3_util_kernels::places::{Places, Source};
+use p3_util_parts::parts::{Part, ReversalPlan, TransposePlan};
 
 /// Puts the region of a part.
 #[inline(always)]
@@ -23,7 +23,22 @@ pub(crate) fn transpose_part<M: Output, R: Source<Item = M::Item> + Copy>(
         (R.items source) (M.items cells) (M.items result) }
     ensures holder { M.same_holder (items_of (region_of part.plan part.number)) cells result }
 {
-    let plan = part.plan();
-    let region = plan.region(part.number());
-    transpose_region(cells, Matrix::new(source, plan.width, plan.height), region)
+    let region = part.region();
+    transpose_region(cells, part.matrix(source), region)
+}
+
+/// Makes the exchanges of a part.
+#[inline(always)]
+pub(crate) fn reverse_part<M: Places>(items: M, part: Part<ReversalPlan>) -> M
+    requires plan { IsReversalPlan (length (M.items items)) part.plan }
+    requires len_fits { length (M.items items) < 2 ^ 64 }
+    ensures { IsPartMade part.plan part.number (M.items items) (M.items result)
+        (λ n. M.same_holder n items result) }
+{
+    match part.patch() {
+        Ok(patch) => patch.exchange(items),
+        // In this arm, the compiler knows that a row is one item.
+        Err(1) => reverse_rows(items, 1),
+        Err(row_width) => reverse_rows(items, row_width),
+    }
 }

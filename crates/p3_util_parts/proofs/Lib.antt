@@ -1,4 +1,5 @@
 -- The modules of lemmas of this crate.
+pub mod Asked
 pub mod CutParts
 pub mod InterleavedSteps
 pub mod MirrorSteps

@@ -16,11 +16,15 @@ ghost use Rattle.p3_util_kernels.specs.Crossing.{HoldsRows};
 ghost use Rattle.p3_util_parts.specs.Parts.{FollowEachOther, IsLeastPartLen, number_of_pair, pairs_of, parts_in, start_of};
 ghost use Rattle.p3_util_kernels.specs.Reversal.{FitsRows};
 
-mod laws;
+mod asked;
+#[doc(hidden)]
+pub mod laws;
 mod numbers;
 mod reversal;
 mod transpose;
 
+#[doc(hidden)]
+pub use asked::{one_part_items, ranges_of_side};
 #[doc(hidden)]
 pub use numbers::{Part, PartsLeft, Plan};
 use p3_util_kernels::kernel::{RowDigits, TILE, exchange_quadrants, exchange_region, pow2};

@@ -2,6 +2,8 @@
 #![warn(clippy::default_numeric_fallback)]
 
 pub mod bits;
+#[cfg(target_pointer_width = "64")]
+pub(crate) mod bytes;
 pub(crate) mod calls;
 pub(crate) mod choice;
 pub(crate) mod grid;

@@ -1,10 +1,9 @@
 // rust/erase writes this file from crates/p3_util_calls/src/part.rt. Make changes there.
-//! What a part of a transpose does.
+//! What a part of a call does.
 
-use crate::kernels::calls::{Output, transpose_region};
-use crate::kernels::kernel::Matrix;
-use crate::kernels::places::Source;
-use crate::kernels::parts::{Part, TransposePlan};
+use crate::kernels::calls::{Output, reverse_rows, transpose_region};
+use crate::kernels::places::{Places, Source};
+use crate::kernels::parts::{Part, ReversalPlan, TransposePlan};
 
 /// Puts the region of a part.
 ///
@@ -24,7 +23,26 @@ pub(crate) fn transpose_part<M: Output, R: Source<Item = M::Item> + Copy>(
     source: R,
     part: Part<TransposePlan>,
 ) -> M {
-    let plan = part.plan();
-    let region = plan.region(part.number());
-    transpose_region(cells, Matrix::new(source, plan.width, plan.height), region)
+    let region = part.region();
+    transpose_region(cells, part.matrix(source), region)
+}
+
+/// Makes the exchanges of a part.
+///
+/// # Contract
+///
+/// ```text
+/// requires plan { IsReversalPlan (length (M.items items)) part.plan }
+/// requires len_fits { length (M.items items) < 2 ^ 64 }
+/// ensures { IsPartMade part.plan part.number (M.items items) (M.items result)
+///     (λ n. M.same_holder n items result) }
+/// ```
+#[inline(always)]
+pub(crate) fn reverse_part<M: Places>(items: M, part: Part<ReversalPlan>) -> M {
+    match part.patch() {
+        Ok(patch) => patch.exchange(items),
+        // In this arm, the compiler knows that a row is one item.
+        Err(1) => reverse_rows(items, 1),
+        Err(row_width) => reverse_rows(items, row_width),
+    }
 }

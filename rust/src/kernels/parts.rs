@@ -11,10 +11,12 @@
 //! at which places the steps of each part are, that two parts have no place in common, and that all
 //! parts together have the effect of the call, however their steps are interleaved.
 
+mod asked;
 mod numbers;
 mod reversal;
 mod transpose;
 
+pub(crate) use asked::{one_part_items, ranges_of_side};
 pub(crate) use numbers::{Part, PartsLeft, Plan};
 use crate::kernels::kernel::{RowDigits, TILE, exchange_quadrants, exchange_region, pow2};
 use crate::kernels::places::Places;

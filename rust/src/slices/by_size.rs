@@ -7,9 +7,9 @@
 //!
 //! If the processor does not move unaligned bytes as fast as aligned ones, each type has kernels of its own.
 
-use super::by_type;
 use super::holders::{Bytes, Items, MOVES_BYTES, SliceItems, SliceSource, USES_REGISTERS, Vector};
-use crate::kernels::choice::LONG_BYTES;
+use super::{by_type, part_by_type};
+use crate::kernels::bytes::{Instances, is_run};
 use crate::kernels::parts::{Part, ReversalPlan, TransposePlan};
 use crate::kernels::registers::{Pair, Two};
 
@@ -41,7 +41,7 @@ macro_rules! by_size {
 
 #[inline(always)]
 pub(super) fn reverse<F>(items: SliceItems<F>) {
-    if const { MOVES_BYTES && size_of::<F>() >= LONG_BYTES } {
+    if const { is_run(size_of::<F>(), MOVES_BYTES) } {
         return reverse_rows(items, 1);
     }
     by_size!(
@@ -74,17 +74,18 @@ pub(super) fn transpose_part<T: Copy>(cells: SliceItems<T>, source: SliceSource<
     if const { by_size!(size_of::<T>()) } {
         transpose_part_of_bytes(cells.in_bytes(), source.in_bytes(), part, size_of::<T>());
     } else {
-        by_type::transpose_part(cells, source, part);
+        part_by_type::transpose_part(cells, source, part);
     }
 }
 
-/// How many bytes a place has in a reversal of rows of `row` bytes each. If the table has this size, a row is a place.
-/// Otherwise an item is one if a row has only this item and the item is not long. All other rows are runs of bytes.
-pub(super) fn bytes_of_place(size: usize, row: usize) -> usize {
-    match row {
-        _ if by_size!(row) => row,
-        _ if !MOVES_BYTES || row == size && size < LONG_BYTES => size.max(1),
-        _ => 1,
+/// The sizes for which this file has instances.
+pub(super) struct Sizes;
+
+impl Instances for Sizes {
+    const MOVES_BYTES: bool = MOVES_BYTES;
+
+    fn has(size: usize) -> bool {
+        by_size!(size)
     }
 }
 
@@ -94,7 +95,7 @@ pub(super) fn reverse_part<F>(items: SliceItems<F>, bytes: usize, part: Part<Rev
     if const { by_size!(size_of::<F>()) } || bytes != size_of::<F>() {
         reverse_part_of_bytes(items.in_bytes(), bytes, part);
     } else {
-        by_type::reverse_part(items, bytes, part);
+        part_by_type::reverse_part(items, bytes, part);
     }
 }
 
@@ -128,7 +129,7 @@ fn reverse_part_of_bytes(list: ByteList, bytes: usize, part: Part<ReversalPlan>)
 fn transpose_part_of_bytes(cells: ByteList, source: SliceSource<Bytes<1>>, part: Part<TransposePlan>, size: usize) {
     by_size!(
         size,
-        holder = cells => by_type::transpose_part(holder, source.in_bytes(), part),
+        holder = cells => part_by_type::transpose_part(holder, source.in_bytes(), part),
         _ => unreachable!("this size has no kernels here")
     );
 }

@@ -25,15 +25,10 @@ use core::fmt;
 use core::iter::FusedIterator;
 
 use super::{SliceItems, SliceSource, instances};
-use crate::kernels::parts::{Part, PartsLeft, Plan, ReversalPlan, TransposePlan};
+use crate::kernels::bytes::plan_in_bytes;
+use crate::kernels::parts::{Part, PartsLeft, Plan, ReversalPlan, TransposePlan, one_part_items, ranges_of_side};
 use crate::kernels::reverse::fits_rows;
 use crate::kernels::transpose::fits_matrix;
-
-/// A list of more items is cut, whatever the size of its items.
-const ONE_PART_ITEMS: usize = 1 << 16;
-
-/// A list of more bytes is cut, however few items it has.
-const ONE_PART_BYTES: usize = 1 << 21;
 
 /// The greatest number of items of this type that [`reversal`] and [`row_reversal`] leave as one part.
 ///
@@ -50,10 +45,10 @@ const ONE_PART_BYTES: usize = 1 << 21;
 /// ```
 #[must_use]
 pub const fn one_part_reversal<F>() -> usize {
-    match ONE_PART_BYTES.checked_div(size_of::<F>()) {
-        _ if cfg!(feature = "checked") => usize::MAX,
-        Some(items) if items < ONE_PART_ITEMS => items,
-        _ => ONE_PART_ITEMS,
+    if cfg!(feature = "checked") {
+        usize::MAX
+    } else {
+        one_part_items(size_of::<F>())
     }
 }
 
@@ -73,12 +68,6 @@ pub struct ReversalParts<'a, F>(PartsToRun<'a, F, ReversalPlan, usize>);
 #[must_use = "a part that is not run leaves the list neither as it was nor reversed"]
 pub struct ReversalPart<'a, F>(PartToRun<'a, F, ReversalPlan, usize>);
 
-/// Into how many ranges a side is cut at most if the caller asks for `parts` parts. There are about two patches for each such
-/// part, so that threads end at about the same time. More patches would be smaller, and make less use of the caches.
-const fn parts_of_side(parts: usize) -> usize {
-    1 + parts.saturating_sub(1).saturating_mul(4).isqrt()
-}
-
 /// The list of a call, and the parts of it that are left. Every part is handed out once, and no two have a place in common:
 /// `kernels/parts.rs` is proved.
 ///
@@ -95,18 +84,6 @@ struct PartToRun<'a, T, P: Plan, I> {
     items: SliceItems<'a, T>,
     part: Part<P>,
     input: I,
-}
-
-/// How many bytes a place has in the plan of a reversal, and the plan for `len` items of `size` bytes. See [`cut`].
-#[track_caller]
-fn plan_of(len: usize, size: usize, row_width: usize, ranges: Option<usize>) -> (usize, ReversalPlan) {
-    if !fits_rows(len, row_width) {
-        crate::refuse_rows(len, row_width);
-    }
-    let row = if len * size == 0 { 0 } else { row_width * size };
-    let bytes = instances::bytes_of_place(size, row);
-    // A row consists of whole places, so the rows fit in these too.
-    (bytes, ReversalPlan::new(len * size / bytes, row / bytes, ranges))
 }
 
 /// Cuts [`transpose::transpose`](crate::transpose::transpose) into at most `parts` parts, 0 for 1.
@@ -180,14 +157,17 @@ pub fn reversal<F: Send>(vals: &mut [F], parts: usize) -> ReversalParts<'_, F> {
 #[must_use = "the list is reversed by the parts, and none has run yet"]
 pub fn row_reversal<F: Send>(vals: &mut [F], row_width: usize, parts: usize) -> ReversalParts<'_, F> {
     let is_cut = vals.len() > one_part_reversal::<F>();
-    cut(vals, row_width, is_cut.then(|| parts_of_side(parts)))
+    cut(vals, row_width, is_cut.then(|| ranges_of_side(parts)))
 }
 
 /// The parts of a reversal. Each side of a square is cut into at most so many `ranges`. With `None` the list is one part.
 #[track_caller]
 pub(super) fn cut<F>(vals: &mut [F], row_width: usize, ranges: Option<usize>) -> ReversalParts<'_, F> {
     let len = vals.len();
-    let (input, plan) = plan_of(len, size_of::<F>(), row_width, ranges);
+    if !fits_rows(len, row_width) {
+        crate::refuse_rows(len, row_width);
+    }
+    let (input, plan) = plan_in_bytes::<instances::Sizes>(len, size_of::<F>(), row_width, ranges);
     let (items, left) = (SliceItems::in_shares(vals, len), PartsLeft::of(plan));
     ReversalParts(PartsToRun { items, left, input })
 }
@@ -215,7 +195,7 @@ impl<F> ReversalPart<'_, F> {
     /// Exchanges the items of this part.
     #[inline]
     pub fn run(self) {
-        // The plan is one for the rows of `items`: `plan_of` checked these, and `ReversalPlan::new` says so (`plan`).
+        // The plan is one for the rows of `items`: `cut` checked these, and `plan_in_bytes` says so (`plan`).
         let PartToRun { items, part, input } = self.0;
         instances::reverse_part(items, input, part);
     }

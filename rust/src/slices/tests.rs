@@ -15,6 +15,7 @@ use super::holders::Bytes;
 #[cfg(not(feature = "checked"))]
 use super::holders::{Items, Vector};
 use super::holders::{SliceItems, SliceSource};
+use crate::kernels::bytes::plan_in_bytes;
 use crate::kernels::choice::side_of;
 use crate::kernels::kernel::HIGH_ROWS;
 use crate::kernels::places::{Block, Cells, Places, Source};
@@ -776,7 +777,7 @@ fn shares() {
 #[test]
 fn places_of_parts() {
     fn place<const N: usize>(row_width: usize) -> usize {
-        super::instances::bytes_of_place(N, row_width * N)
+        plan_in_bytes::<super::instances::Sizes>(row_width, N, row_width, None).0
     }
     let moves_bytes = cfg!(all(
         any(target_arch = "x86_64", target_arch = "aarch64"),

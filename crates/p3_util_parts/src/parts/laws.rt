@@ -46,8 +46,9 @@ use p3_util_kernels::places::{Cells, Places, Source};
 /// A holder whose `same_holder n a b` says that some n puts turn the items of `a` into those of
 /// `b`.
 #[derive(Drop)]
-struct PutSteps<C> {
-    cells: C,
+#[doc(hidden)]
+pub struct PutSteps<C> {
+    pub cells: C,
 }
 
 impl<C: Cells> Cells for PutSteps<C> {
@@ -74,8 +75,9 @@ impl<C: Cells> Cells for PutSteps<C> {
 /// A holder whose `same_holder n a b` says that some n exchanges turn the items of `a` into those
 /// of `b`.
 #[derive(Drop)]
-struct ExchangeSteps<S> {
-    places: S,
+#[doc(hidden)]
+pub struct ExchangeSteps<S> {
+    pub places: S,
 }
 
 impl<S: Places> Places for ExchangeSteps<S> {

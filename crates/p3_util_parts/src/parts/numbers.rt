@@ -12,12 +12,13 @@ pub trait Plan: Copy {
         ensures { result ≡ parts self };
 }
 
-/// A part of a call. Only [`PartsLeft::hand_out`] makes one, and there is no copy of it.
+/// A part of a call. Only [`PartsLeft::hand_out`] makes one, there is no copy of it, and it does not show its plan. So no
+/// caller can hand out the parts of its plan again.
 #[derive(Drop)]
 #[doc(hidden)]
 pub struct Part<P: Plan> {
-    pub(crate) plan: P,
-    pub(crate) number: usize,
+    pub(super) plan: P,
+    pub(super) number: usize,
     pub ghost below: { number < P.parts plan },
 }
 
@@ -77,14 +78,6 @@ impl<P: Plan> PartsLeft<P> {
 }
 
 impl<P: Plan> Part<P> {
-    /// The plan of the call.
-    #[doc(hidden)]
-    pub fn plan(&self) -> P
-        ensures { result ≡ self.now.plan }
-    {
-        self.plan
-    }
-
     /// The number of the part.
     #[doc(hidden)]
     pub fn number(&self) -> usize

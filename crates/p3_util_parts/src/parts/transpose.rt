@@ -5,8 +5,9 @@ ghost use Rattle.p3_util_parts.specs.Parts.{IsLeastPartLen, part_of_matrix, part
 ghost use Rattle.p3_util_kernels.specs.Region.{IsRegionTransposed, LiesInMatrix, items_of};
 
 use crate::parts::Cut;
-use crate::parts::numbers::Plan;
-use p3_util_kernels::kernel::UNIT;
+use crate::parts::numbers::{Part, Plan};
+use p3_util_kernels::kernel::{Matrix, UNIT};
+use p3_util_kernels::places::Source;
 use p3_util_kernels::transpose::Region;
 
 /// The transpose of a matrix of `height` rows of `width` items, cut into regions of neighbouring
@@ -100,5 +101,27 @@ impl Plan for TransposePlan {
     /// The number of regions.
     fn count(self) -> usize {
         self.cut.count()
+    }
+}
+
+impl Part<TransposePlan> {
+    /// The region of the part.
+    #[doc(hidden)]
+    pub fn region(&self) -> Region
+        ensures region { let plan = self.now.plan in result ≡ part_of_matrix plan.width plan.height plan.by_rows
+            plan.cut.len plan.cut.part_len self.now.number }
+        ensures inside { LiesInMatrix result self.now.plan.width self.now.plan.height }
+    {
+        self.plan.region(self.number)
+    }
+
+    /// The matrix of the call, with its items.
+    #[doc(hidden)]
+    pub fn matrix<R: Source + Copy>(&self, source: R) -> Matrix<R>
+        ensures source { result.source ≡ source }
+        ensures width { result.width ≡ self.now.plan.width }
+        ensures height { result.height ≡ self.now.plan.height }
+    {
+        Matrix::new(source, self.plan.width, self.plan.height)
     }
 }

@@ -50,14 +50,27 @@
 //!       (λ n. M.same_holder n m result)
 //! ```
 //!
+//! # `parts/asked.rt`
+//!
+//! ```text
+//! fn one_part_items(size: usize) -> usize
+//!   ensures items: result ≤ 2 ^ 16
+//!   ensures bytes: result * size ≤ 2 ^ 21
+//!   ensures most: result < 2 ^ 16 → 2 ^ 21 < (result + 1) * size
+//! fn ranges_of_side(parts: usize) -> usize
+//!   ensures some: 0 < result
+//!   ensures fits: (result - 1) * (result - 1) ≤ 4 * (parts - 1)
+//!   ensures most: 4 * (parts - 1) < 2 ^ 64 → 4 * (parts - 1) < result * result
+//! ```
+//!
 //! # `parts/laws.rt`
 //!
 //! ```text
-//! struct PutSteps<C> { cells: C }
+//! struct PutSteps<C> { pub cells: C }
 //! impl<C: Cells> Cells for PutSteps<C>
 //!   ghost items = λ h. C.items h.cells
 //!   ghost same_holder = λ n a b. PutsLead n (C.items a.cells) (C.items b.cells)
-//! struct ExchangeSteps<S> { places: S }
+//! struct ExchangeSteps<S> { pub places: S }
 //! impl<S: Places> Places for ExchangeSteps<S>
 //!   ghost items = λ h. S.items h.places
 //!   ghost same_holder = λ n a b. SwapsLead n (S.items a.places) (S.items b.places)
@@ -123,7 +136,7 @@
 //!   ghost parts: Self → ℕ
 //!   fn count(self) -> usize
 //!     ensures: result ≡ parts self
-//! struct Part<P: Plan> { pub(crate) plan: P, pub(crate) number: usize, pub ghost below: { number < P.parts plan } }
+//! struct Part<P: Plan> { pub(super) plan: P, pub(super) number: usize, pub ghost below: { number < P.parts plan } }
 //! struct PartsLeft<P: Plan> { plan: P, next: usize, end: usize, pub ghost in_order: { next ≤ end }, pub ghost inside:
 //!     { end ≤ P.parts plan } }
 //! fn PartsLeft::of(plan: P) -> Self
@@ -138,8 +151,6 @@
 //!   ensures some: IfSome result (λ part. (part.plan ≡ self.old.plan) × (part.number ≡ self.old.next) × (self.new.next
 //!       ≡ self.old.next + 1))
 //!   ensures none: IfNone result ((self.old.next ≡ self.old.end) × (self.new.next ≡ self.old.next))
-//! fn Part::plan(&self) -> P
-//!   ensures: result ≡ self.now.plan
 //! fn Part::number(&self) -> usize
 //!   ensures number: result ≡ self.now.number
 //!   ensures below: result < P.parts self.now.plan
@@ -193,4 +204,12 @@
 //!       number)
 //! impl Plan for TransposePlan
 //!   ghost parts = λ plan. parts_in plan.cut.len plan.cut.part_len
+//! fn Part::region(&self) -> Region
+//!   ensures region: let plan = self.now.plan in result ≡ part_of_matrix plan.width plan.height plan.by_rows
+//!       plan.cut.len plan.cut.part_len self.now.number
+//!   ensures inside: LiesInMatrix result self.now.plan.width self.now.plan.height
+//! fn Part::matrix<R: Source + Copy>(&self, source: R) -> Matrix<R>
+//!   ensures source: result.source ≡ source
+//!   ensures width: result.width ≡ self.now.plan.width
+//!   ensures height: result.height ≡ self.now.plan.height
 //! ```

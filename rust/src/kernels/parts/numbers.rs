@@ -13,10 +13,11 @@ pub(crate) trait Plan: Copy {
     fn count(self) -> usize;
 }
 
-/// A part of a call. Only [`PartsLeft::hand_out`] makes one, and there is no copy of it.
+/// A part of a call. Only [`PartsLeft::hand_out`] makes one, there is no copy of it, and it does not show its plan. So no
+/// caller can hand out the parts of its plan again.
 pub(crate) struct Part<P: Plan> {
-    pub(crate) plan: P,
-    pub(crate) number: usize,
+    pub(super) plan: P,
+    pub(super) number: usize,
 }
 
 /// The parts of a call that are still to be handed out: those with the numbers from `next` on.
@@ -80,17 +81,6 @@ impl<P: Plan> PartsLeft<P> {
 }
 
 impl<P: Plan> Part<P> {
-    /// The plan of the call.
-    ///
-    /// # Contract
-    ///
-    /// ```text
-    /// ensures { result ≡ self.now.plan }
-    /// ```
-    pub(crate) fn plan(&self) -> P {
-        self.plan
-    }
-
     /// The number of the part.
     ///
     /// # Contract

@@ -2,8 +2,9 @@
 //! The regions that the transpose of a matrix is cut into.
 
 use crate::kernels::parts::Cut;
-use crate::kernels::parts::numbers::Plan;
-use crate::kernels::kernel::UNIT;
+use crate::kernels::parts::numbers::{Part, Plan};
+use crate::kernels::kernel::{Matrix, UNIT};
+use crate::kernels::places::Source;
 use crate::kernels::transpose::Region;
 
 /// The transpose of a matrix of `height` rows of `width` items, cut into regions of neighbouring
@@ -100,5 +101,33 @@ impl Plan for TransposePlan {
     /// The number of regions.
     fn count(self) -> usize {
         self.cut.count()
+    }
+}
+
+impl Part<TransposePlan> {
+    /// The region of the part.
+    ///
+    /// # Contract
+    ///
+    /// ```text
+    /// ensures region { let plan = self.now.plan in result ≡ part_of_matrix plan.width plan.height plan.by_rows
+    ///     plan.cut.len plan.cut.part_len self.now.number }
+    /// ensures inside { LiesInMatrix result self.now.plan.width self.now.plan.height }
+    /// ```
+    pub(crate) fn region(&self) -> Region {
+        self.plan.region(self.number)
+    }
+
+    /// The matrix of the call, with its items.
+    ///
+    /// # Contract
+    ///
+    /// ```text
+    /// ensures source { result.source ≡ source }
+    /// ensures width { result.width ≡ self.now.plan.width }
+    /// ensures height { result.height ≡ self.now.plan.height }
+    /// ```
+    pub(crate) fn matrix<R: Source + Copy>(&self, source: R) -> Matrix<R> {
+        Matrix::new(source, self.plan.width, self.plan.height)
     }
 }

@@ -114,7 +114,8 @@ fn of_both<'a, T, P: Plan, I: Copy>(
 fn exchanges_both(len: usize, row_width: usize) {
     let mut list: Vec<usize> = (0..len).collect();
     let ReversalParts(parts) = cut(&mut list, row_width, Some(1));
-    let plans = [1, 2].map(|ranges| plan_of(len, size_of::<usize>(), row_width, Some(ranges)).1);
+    let plans =
+        [1, 2].map(|ranges| plan_in_bytes::<instances::Sizes>(len, size_of::<usize>(), row_width, Some(ranges)).1);
     assert_eq!(plans.map(Plan::count), [1, 3]);
     let both = of_both(parts, plans.map(|plan| (plan, 0)));
     run_all(both.map(|part| std::vec![ReversalPart(part)]), ReversalPart::run);

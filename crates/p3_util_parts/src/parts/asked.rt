@@ -1,0 +1,40 @@
+//! How finely a reversal is cut if a caller asks for some number of parts.
+
+ghost use Rattle.std.specs.Prelude.{◌≡◌, ◌+◌, ◌-◌, ◌*◌, ◌^◌, ◌<◌, ◌≤◌};
+
+/// A list of more items is cut, whatever the size of its items.
+const ONE_PART_ITEMS: usize = 1 << 16;
+
+/// A list of more bytes is cut, however few items it has.
+const ONE_PART_BYTES: usize = 1 << 21;
+
+/// Fewer than `ONE_PART_ITEMS` items fit in `ONE_PART_BYTES` if each has more bytes than this.
+const SHORT_ITEM: usize = 32;
+
+/// The greatest number of items of `size` bytes that are left as one part.
+#[tactic(auto, using(crate::proofs::Asked::quotient_fits, crate::proofs::Asked::quotient_next, crate::proofs::Asked::quotient_small))]
+#[doc(hidden)]
+pub const fn one_part_items(size: usize) -> usize
+    ensures items { result ≤ 2 ^ 16 }
+    ensures bytes { result * size ≤ 2 ^ 21 }
+    ensures most { result < 2 ^ 16 → 2 ^ 21 < (result + 1) * size }
+{
+    if size <= SHORT_ITEM {
+        ONE_PART_ITEMS
+    } else {
+        ONE_PART_BYTES / size
+    }
+}
+
+/// Into how many ranges a side of a grid is cut at most if the caller asks for `parts` parts, 0 for 1. A grid that is cut into P
+/// ranges has P(P + 1) / 2 patches. These are about two for each part that is asked for, so that threads end at about the same
+/// time. More patches would be smaller, and make less use of the caches.
+#[tactic(auto, using(crate::proofs::Asked::root_fits, crate::proofs::Asked::root_most))]
+#[doc(hidden)]
+pub const fn ranges_of_side(parts: usize) -> usize
+    ensures some { 0 < result }
+    ensures fits { (result - 1) * (result - 1) ≤ 4 * (parts - 1) }
+    ensures most { 4 * (parts - 1) < 2 ^ 64 → 4 * (parts - 1) < result * result }
+{
+    1 + parts.saturating_sub(1).saturating_mul(4).isqrt()
+}
