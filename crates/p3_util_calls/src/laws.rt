@@ -25,9 +25,13 @@ use p3_util_parts::parts::{Part, PartsLeft, ReversalPlan, TransposePlan};
 /// With the constants of any other holder. A copy puts the items one by one.
 impl<C: Output> Output for PutSteps<C> {
     const SIZE: usize = C::SIZE;
+
     const IS_INLINED: bool = C::IS_INLINED;
+
     const TESTS_INDICES: bool = C::TESTS_INDICES;
+
     const HAS_REGISTERS: bool = C::HAS_REGISTERS;
+
     const IS_X86_64: bool = C::IS_X86_64;
 
     fn limits() -> Limits {
