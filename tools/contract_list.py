@@ -60,7 +60,7 @@ def function(indent, owner, declared, hidden=""):
 def members(outer):
     """What a trait or an implementation of a trait says, without the proofs of its laws."""
     for inner in declarations(outer.body, 4):
-        proves = outer.kind == "impl" and re.match(r"ghost (laws|full|few|fits|may_both|\w+_(refl|trans)) =", inner.head)
+        proves = outer.kind == "impl" and re.match(r"ghost (laws|full|few|fits|may_both|same_(items|steps|tiles?)|\w+_(refl|trans)) =", inner.head)
         if inner.kind == "fn" and (inner.clauses or outer.kind == "trait"):
             yield from function(4, "", inner)
         elif inner.kind == "ghost" and not proves or inner.kind == "type" and "=" not in inner.head:

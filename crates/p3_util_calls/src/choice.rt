@@ -44,7 +44,7 @@ const FAR_LIST: usize = 1 << 19;
 /// The least number of bytes of an item that is read far.
 const FAR_ITEM: usize = 12;
 
-/// An item of so many bytes is not read far: a column of a high strip fills most of a page.
+/// An item of so many bytes is not read far: it takes less time by high strips.
 const FAR_LIMIT: usize = 24;
 
 /// Where each index is tested, items of so many bytes are put one by one if their list has more than `ROWS_LONG_LIST` bytes.
@@ -120,7 +120,8 @@ pub(crate) fn strips_of<const SIDE: usize>(is_low: bool, width: usize) -> Strips
 /// The list is in memory, so no product wraps.
 #[inline(always)]
 pub(crate) fn is_read_far(size: usize, width: usize, height: usize) -> bool {
-    FAR_ITEM <= size && size < FAR_LIMIT && width.wrapping_mul(height).wrapping_mul(size) > FAR_LIST
+    let list = width.wrapping_mul(height).wrapping_mul(size);
+    (FAR_ITEM..FAR_LIMIT).contains(&size) && list > FAR_LIST
 }
 
 /// Where each index is tested, a matrix is put by blocks of several rows instead of columns and strips. The holder tests each

@@ -85,3 +85,8 @@ IsBlockPut-whole block input old new all = record {
   places = λ r c hr h. all.places r c hr (omega arith) (lt_of_mul-lt-mul_left block.rows (let column : block.rows * c < block.rows * block.cols = omega (arith, h) in column));
   others = λ p out. all.others p (λ r c hr h k. out r c hr (in_block block.rows block.cols r c hr k));
 }
+
+-- a run that is within a row of the block is within the source
+pub run_inside : (block : Block) (len side r c : ℕ) → ((r c : ℕ) → r < block.rows → c < block.cols → block.from + r * block.width + c < len)
+    → 0 < side → r < block.rows → c + side ≤ block.cols → block.from + r * block.width + c + side ≤ len
+run_inside block len side r c inside some hr hc = omega (arith, some, inside r (c + side - 1) hr (omega (arith, some, hc)))

@@ -37,6 +37,7 @@ ghost use Rattle.p3_util_kernels.specs.Exchanged.{AreTiles, IsTile, TileTurned, 
 
 pub(crate) mod blocks;
 pub(crate) mod line_blocks;
+pub(crate) mod tiles;
 mod witness;
 
 use p3_util_kernels::places::Block;
@@ -94,6 +95,9 @@ pub(crate) trait Runs<T, D: Register<T>> {
     /// It may also be streamed, which may need an aligned place and a fence later on.
     ghost may_stream: { Reach → ℕ → Type 0 };
 
+    /// `same_holder n a b` says that b is the holder a after runs of n items together were written.
+    ghost same_holder: { ℕ → Self → Self → Type 0 };
+
     /// Reads the run from `place` on.
     fn load(&self, place: usize) -> D::Half
         requires { may (reach self.now) place }
@@ -103,14 +107,16 @@ pub(crate) trait Runs<T, D: Register<T>> {
     fn store(&mut self, place: usize, run: D::Half)
         requires { may (reach self.old) place }
         ensures stored { IsRunStored D.SIDE place (D.half_items run) (items self.old) (items self.new) }
-        ensures holder { reach self.new ≡ reach self.old };
+        ensures reach { reach self.new ≡ reach self.old }
+        ensures holder { same_holder D.SIDE self.old self.new };
 
     /// Does the same as `store`. It is for a run that the kernel does not use again, so a holder may store it past the caches.
     /// No clause says that the run is not used again: that would take longer, and leave the same items.
     fn stream(&mut self, place: usize, run: D::Half)
         requires { may_stream (reach self.old) place }
         ensures stored { IsRunStored D.SIDE place (D.half_items run) (items self.old) (items self.new) }
-        ensures holder { reach self.new ≡ reach self.old }
+        ensures reach { reach self.new ≡ reach self.old }
+        ensures holder { same_holder D.SIDE self.old self.new }
     {
         self.store(place, run);
     }
@@ -118,6 +124,11 @@ pub(crate) trait Runs<T, D: Register<T>> {
     ghost may_both: { (r : Reach) (p : ℕ) → may_stream r p → may r p };
 
     ghost len_fits: { (a : Self) → length (items a) < 2 ^ 63 };
+
+    ghost same_holder_refl: { (a : Self) → same_holder 0 a a };
+
+    ghost same_holder_trans: { (m n all : ℕ) (a b c : Self) → same_holder m a b → same_holder n b c
+        → m + n ≡ all → same_holder all a c };
 }
 
 /// Four registers.
@@ -214,7 +225,8 @@ fn store_two<T, D: Register<T>, M: Runs<T, D>>(list: &mut M, first: usize, secon
     requires first { M.may (M.reach list.old) first }
     requires second { M.may (M.reach list.old) second }
     ensures stored { IsStored D.SIDE first second (D.items rows) (M.items list.old) (M.items list.new) }
-    ensures holder { M.reach list.new ≡ M.reach list.old }
+    ensures reach { M.reach list.new ≡ M.reach list.old }
+    ensures holder { M.same_holder (2 * D.SIDE) list.old list.new }
 {
     let (a, b) = rows.halves();
     list.store(first, a);
@@ -233,7 +245,8 @@ fn store<T, D: Register<T>, M: Runs<T, D>>(
     requires reached { AreReached count to (M.may (M.reach list.old)) }
     requires apart { AreDisjoint count D.SIDE to }
     ensures stored { AreStored count D.SIDE to (items_of_four D.items four) (M.items list.old) (M.items list.new) }
-    ensures holder { M.reach list.new ≡ M.reach list.old }
+    ensures reach { M.reach list.new ≡ M.reach list.old }
+    ensures holder { M.same_holder (count * D.SIDE) list.old list.new }
 {
     store_two(list, to[0], to[1], four.a);
     store_two(list, to[2], to[3], four.b);
@@ -351,7 +364,8 @@ fn exchange_band<T, D: Register<T>, M: Runs<T, D>>(
     requires reached_y { RowsReached 8 D.SIDE (slice_index y) (M.may (M.reach list.old)) }
     requires len_fits { length (M.items list.old) < 2 ^ 63 }
     ensures exchanged { RowsExchanged row (row + D.SIDE) x y (M.items list.old) (M.items list.new) }
-    ensures holder { M.reach list.new ≡ M.reach list.old }
+    ensures reach { M.reach list.new ≡ M.reach list.old }
+    ensures holder { M.same_holder (16 * D.SIDE) list.old list.new }
 {
     let in_x = in_band(x, D::SIDE, row);
     let in_y = in_column(y, row);
@@ -373,7 +387,8 @@ pub(crate) fn exchange_tiles<T, D: Register<T>, M: Runs<T, D>>(
     requires reached_x { RowsReached 8 D.SIDE (slice_index x) (M.may (M.reach list.old)) }
     requires reached_y { RowsReached 8 D.SIDE (slice_index y) (M.may (M.reach list.old)) }
     ensures exchanged { TilesExchanged 64 x y (M.items list.old) (M.items list.new) }
-    ensures holder { M.reach list.new ≡ M.reach list.old }
+    ensures reach { M.reach list.new ≡ M.reach list.old }
+    ensures holder { M.same_holder 128 list.old list.new }
 {
     match D::SIDE {
         2 => {
@@ -430,7 +445,8 @@ fn turn_squares<T, D: Register<T>, M: Runs<T, D>>(list: &mut M, x: [usize; 8], s
     requires reached { RowsReached 8 D.SIDE (slice_index x) (M.may (M.reach list.old)) }
     requires len_fits { length (M.items list.old) < 2 ^ 63 }
     ensures turned { SquaresTurned sum (sum + D.SIDE) D.SIDE x (M.items list.old) (M.items list.new) }
-    ensures holder { M.reach list.new ≡ M.reach list.old }
+    ensures reach { M.reach list.new ≡ M.reach list.old }
+    ensures holder { M.same_holder (8 * D.SIDE) list.old list.new }
 {
     let side = D::SIDE;
     let tops = opposites(side, sum);
@@ -445,7 +461,8 @@ pub(crate) fn turn_tile<T, D: Register<T>, M: Runs<T, D>>(list: &mut M, x: [usiz
     requires tile { IsTile x (length (M.items list.old)) }
     requires reached { RowsReached 8 D.SIDE (slice_index x) (M.may (M.reach list.old)) }
     ensures turned { TileTurned 64 x (M.items list.old) (M.items list.new) }
-    ensures holder { M.reach list.new ≡ M.reach list.old }
+    ensures reach { M.reach list.new ≡ M.reach list.old }
+    ensures holder { M.same_holder 64 list.old list.new }
 {
     match D::SIDE {
         2 => {
@@ -512,7 +529,8 @@ fn put_squares<T, D: Register<T>, S: Runs<T, D>, M: Runs<T, D>>(
     requires source_len_fits { length (S.items source.now) < 2 ^ 63 }
     requires cells_len_fits { length (M.items cells.old) < 2 ^ 63 }
     ensures put { ColumnsPut col (col + D.SIDE) block (S.items source.now) (M.items cells.old) (M.items cells.new) }
-    ensures holder { M.reach cells.new ≡ M.reach cells.old }
+    ensures reach { M.reach cells.new ≡ M.reach cells.old }
+    ensures holder { M.same_holder (block.rows * D.SIDE) cells.old cells.new }
 {
     let from = in_column(starts(block.from, block.width, block.rows), col);
     let to = in_band(starts(block.to, block.height, block.rows), D::SIDE, col);
@@ -535,7 +553,8 @@ fn store_columns<T, D: Register<T>, M: Runs<T, D>>(
     requires reached { AreReached count to (M.may (M.reach list.old)) }
     requires apart { AreDisjoint count D.SIDE to }
     ensures stored { AreStored count D.SIDE to (items_of_four D.items four) (M.items list.old) (M.items list.new) }
-    ensures holder { M.reach list.new ≡ M.reach list.old }
+    ensures reach { M.reach list.new ≡ M.reach list.old }
+    ensures holder { M.same_holder (count * D.SIDE) list.old list.new }
 {
     let (a, b) = (four.a.halves(), four.b.halves());
     let (c, d) = (four.c.halves(), four.d.halves());
@@ -587,7 +606,8 @@ fn put_twice<T, D: Register<T>, S: Runs<T, D>, M: Runs<T, D>>(
     requires source_len_fits { length (S.items source.now) < 2 ^ 63 }
     requires cells_len_fits { length (M.items cells.old) < 2 ^ 63 }
     ensures put { ColumnsPut col (col + 2 * D.SIDE) block (S.items source.now) (M.items cells.old) (M.items cells.new) }
-    ensures holder { M.reach cells.new ≡ M.reach cells.old }
+    ensures reach { M.reach cells.new ≡ M.reach cells.old }
+    ensures holder { M.same_holder (block.rows * (2 * D.SIDE)) cells.old cells.new }
 {
     let side = D::SIDE;
     let from = starts(block.from, block.width, block.rows);
@@ -614,7 +634,8 @@ pub(crate) fn put_by_squares<T, D: Register<T>, S: Runs<T, D>, M: Runs<T, D>>(
     requires reads { RowsReached block.rows D.SIDE (λ r. block.from + r * block.width) (S.may (S.reach source.now)) }
     requires writes { RowsReached block.rows D.SIDE (λ c. block.to + c * block.height) (M.may (M.reach cells.old)) }
     ensures put { IsBlockPut (block_items block) block (S.items source.now) (M.items cells.old) (M.items cells.new) }
-    ensures holder { M.reach cells.new ≡ M.reach cells.old }
+    ensures reach { M.reach cells.new ≡ M.reach cells.old }
+    ensures holder { M.same_holder (block_items block) cells.old cells.new }
 {
     match block.rows / D::SIDE {
         4 => {

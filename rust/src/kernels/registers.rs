@@ -32,6 +32,7 @@
 
 pub(crate) mod blocks;
 pub(crate) mod line_blocks;
+pub(crate) mod tiles;
 
 use crate::kernels::places::Block;
 
@@ -104,7 +105,8 @@ pub(crate) trait Runs<T, D: Register<T>> {
     /// ```text
     /// requires { may (reach self.old) place }
     /// ensures stored { IsRunStored D.SIDE place (D.half_items run) (items self.old) (items self.new) }
-    /// ensures holder { reach self.new ≡ reach self.old }
+    /// ensures reach { reach self.new ≡ reach self.old }
+    /// ensures holder { same_holder D.SIDE self.old self.new }
     /// ```
     fn store(&mut self, place: usize, run: D::Half);
 
@@ -116,7 +118,8 @@ pub(crate) trait Runs<T, D: Register<T>> {
     /// ```text
     /// requires { may_stream (reach self.old) place }
     /// ensures stored { IsRunStored D.SIDE place (D.half_items run) (items self.old) (items self.new) }
-    /// ensures holder { reach self.new ≡ reach self.old }
+    /// ensures reach { reach self.new ≡ reach self.old }
+    /// ensures holder { same_holder D.SIDE self.old self.new }
     /// ```
     fn stream(&mut self, place: usize, run: D::Half) {
         self.store(place, run);
@@ -239,7 +242,8 @@ fn load_columns<T, D: Register<T>, S: Runs<T, D>>(list: &S, places: [usize; 8]) 
 /// requires first { M.may (M.reach list.old) first }
 /// requires second { M.may (M.reach list.old) second }
 /// ensures stored { IsStored D.SIDE first second (D.items rows) (M.items list.old) (M.items list.new) }
-/// ensures holder { M.reach list.new ≡ M.reach list.old }
+/// ensures reach { M.reach list.new ≡ M.reach list.old }
+/// ensures holder { M.same_holder (2 * D.SIDE) list.old list.new }
 /// ```
 #[inline(always)]
 fn store_two<T, D: Register<T>, M: Runs<T, D>>(list: &mut M, first: usize, second: usize, rows: D) {
@@ -257,7 +261,8 @@ fn store_two<T, D: Register<T>, M: Runs<T, D>>(list: &mut M, first: usize, secon
 /// requires reached { AreReached count to (M.may (M.reach list.old)) }
 /// requires apart { AreDisjoint count D.SIDE to }
 /// ensures stored { AreStored count D.SIDE to (items_of_four D.items four) (M.items list.old) (M.items list.new) }
-/// ensures holder { M.reach list.new ≡ M.reach list.old }
+/// ensures reach { M.reach list.new ≡ M.reach list.old }
+/// ensures holder { M.same_holder (count * D.SIDE) list.old list.new }
 /// ```
 #[inline(always)]
 fn store<T, D: Register<T>, M: Runs<T, D>>(
@@ -399,7 +404,8 @@ fn in_band(x: [usize; 8], side: usize, top: usize) -> [usize; 8] {
 /// requires reached_y { RowsReached 8 D.SIDE (slice_index y) (M.may (M.reach list.old)) }
 /// requires len_fits { length (M.items list.old) < 2 ^ 63 }
 /// ensures exchanged { RowsExchanged row (row + D.SIDE) x y (M.items list.old) (M.items list.new) }
-/// ensures holder { M.reach list.new ≡ M.reach list.old }
+/// ensures reach { M.reach list.new ≡ M.reach list.old }
+/// ensures holder { M.same_holder (16 * D.SIDE) list.old list.new }
 /// ```
 #[inline(always)]
 fn exchange_band<T, D: Register<T>, M: Runs<T, D>>(
@@ -426,7 +432,8 @@ fn exchange_band<T, D: Register<T>, M: Runs<T, D>>(
 /// requires reached_x { RowsReached 8 D.SIDE (slice_index x) (M.may (M.reach list.old)) }
 /// requires reached_y { RowsReached 8 D.SIDE (slice_index y) (M.may (M.reach list.old)) }
 /// ensures exchanged { TilesExchanged 64 x y (M.items list.old) (M.items list.new) }
-/// ensures holder { M.reach list.new ≡ M.reach list.old }
+/// ensures reach { M.reach list.new ≡ M.reach list.old }
+/// ensures holder { M.same_holder 128 list.old list.new }
 /// ```
 #[inline(always)]
 pub(crate) fn exchange_tiles<T, D: Register<T>, M: Runs<T, D>>(
@@ -499,7 +506,8 @@ fn opposites(side: usize, sum: usize) -> [usize; 8] {
 /// requires reached { RowsReached 8 D.SIDE (slice_index x) (M.may (M.reach list.old)) }
 /// requires len_fits { length (M.items list.old) < 2 ^ 63 }
 /// ensures turned { SquaresTurned sum (sum + D.SIDE) D.SIDE x (M.items list.old) (M.items list.new) }
-/// ensures holder { M.reach list.new ≡ M.reach list.old }
+/// ensures reach { M.reach list.new ≡ M.reach list.old }
+/// ensures holder { M.same_holder (8 * D.SIDE) list.old list.new }
 /// ```
 #[inline(always)]
 fn turn_squares<T, D: Register<T>, M: Runs<T, D>>(list: &mut M, x: [usize; 8], sum: usize) {
@@ -518,7 +526,8 @@ fn turn_squares<T, D: Register<T>, M: Runs<T, D>>(list: &mut M, x: [usize; 8], s
 /// requires tile { IsTile x (length (M.items list.old)) }
 /// requires reached { RowsReached 8 D.SIDE (slice_index x) (M.may (M.reach list.old)) }
 /// ensures turned { TileTurned 64 x (M.items list.old) (M.items list.new) }
-/// ensures holder { M.reach list.new ≡ M.reach list.old }
+/// ensures reach { M.reach list.new ≡ M.reach list.old }
+/// ensures holder { M.same_holder 64 list.old list.new }
 /// ```
 #[inline(always)]
 pub(crate) fn turn_tile<T, D: Register<T>, M: Runs<T, D>>(list: &mut M, x: [usize; 8]) {
@@ -592,7 +601,8 @@ fn starts(first: usize, stride: usize, count: usize) -> [usize; 8] {
 /// requires source_len_fits { length (S.items source.now) < 2 ^ 63 }
 /// requires cells_len_fits { length (M.items cells.old) < 2 ^ 63 }
 /// ensures put { ColumnsPut col (col + D.SIDE) block (S.items source.now) (M.items cells.old) (M.items cells.new) }
-/// ensures holder { M.reach cells.new ≡ M.reach cells.old }
+/// ensures reach { M.reach cells.new ≡ M.reach cells.old }
+/// ensures holder { M.same_holder (block.rows * D.SIDE) cells.old cells.new }
 /// ```
 #[inline(always)]
 fn put_squares<T, D: Register<T>, S: Runs<T, D>, M: Runs<T, D>>(
@@ -618,7 +628,8 @@ fn put_squares<T, D: Register<T>, S: Runs<T, D>, M: Runs<T, D>>(
 /// requires reached { AreReached count to (M.may (M.reach list.old)) }
 /// requires apart { AreDisjoint count D.SIDE to }
 /// ensures stored { AreStored count D.SIDE to (items_of_four D.items four) (M.items list.old) (M.items list.new) }
-/// ensures holder { M.reach list.new ≡ M.reach list.old }
+/// ensures reach { M.reach list.new ≡ M.reach list.old }
+/// ensures holder { M.same_holder (count * D.SIDE) list.old list.new }
 /// ```
 #[inline(always)]
 fn store_columns<T, D: Register<T>, M: Runs<T, D>>(
@@ -675,7 +686,8 @@ fn store_columns<T, D: Register<T>, M: Runs<T, D>>(
 /// requires source_len_fits { length (S.items source.now) < 2 ^ 63 }
 /// requires cells_len_fits { length (M.items cells.old) < 2 ^ 63 }
 /// ensures put { ColumnsPut col (col + 2 * D.SIDE) block (S.items source.now) (M.items cells.old) (M.items cells.new) }
-/// ensures holder { M.reach cells.new ≡ M.reach cells.old }
+/// ensures reach { M.reach cells.new ≡ M.reach cells.old }
+/// ensures holder { M.same_holder (block.rows * (2 * D.SIDE)) cells.old cells.new }
 /// ```
 #[inline(always)]
 fn put_twice<T, D: Register<T>, S: Runs<T, D>, M: Runs<T, D>>(
@@ -707,7 +719,8 @@ fn put_twice<T, D: Register<T>, S: Runs<T, D>, M: Runs<T, D>>(
 /// requires reads { RowsReached block.rows D.SIDE (λ r. block.from + r * block.width) (S.may (S.reach source.now)) }
 /// requires writes { RowsReached block.rows D.SIDE (λ c. block.to + c * block.height) (M.may (M.reach cells.old)) }
 /// ensures put { IsBlockPut (block_items block) block (S.items source.now) (M.items cells.old) (M.items cells.new) }
-/// ensures holder { M.reach cells.new ≡ M.reach cells.old }
+/// ensures reach { M.reach cells.new ≡ M.reach cells.old }
+/// ensures holder { M.same_holder (block_items block) cells.old cells.new }
 /// ```
 #[inline(always)]
 pub(crate) fn put_by_squares<T, D: Register<T>, S: Runs<T, D>, M: Runs<T, D>>(

@@ -17,10 +17,12 @@ pub(crate) use registers::USES_REGISTERS;
 pub(super) use registers::{Items, Vector};
 
 use crate::kernels::calls::Output;
-use crate::kernels::choice::Limits;
 use crate::kernels::places::{Block, Cells, Places, Source};
-use crate::kernels::registers::blocks::{RunsOfCells, put_block, put_singly};
-use crate::kernels::registers::{self as squares, Runs, Single, Two};
+use crate::kernels::registers::blocks::{
+    LinesOfCells, RunsOfCells, SquaresOfCells, put_block_in_lines, put_block_in_squares, put_singly,
+};
+use crate::kernels::registers::tiles::{self, RunsOfPlaces};
+use crate::kernels::registers::{Register, Runs, Single, Two};
 use crate::kernels::transpose::{Matrix, PutRegion, Region};
 
 mod bytes;
@@ -39,8 +41,8 @@ const LINE: usize = 64;
 /// that another part changes is undefined behaviour, even if nothing is read through the reference.
 ///
 /// Tiles and blocks of items are transposed in registers `D`, each of which is two rows of a square, if these have more than
-/// one item. If `STREAM` is true, the holder streams whole cache lines, past the caches.
-pub(super) struct SliceItems<'a, T, D = Two<()>, const STREAM: bool = false> {
+/// one item.
+pub(super) struct SliceItems<'a, T, D = Two<()>> {
     first: *mut T,
     len: usize,
     slice: PhantomData<(&'a mut [T], D)>,
@@ -56,12 +58,18 @@ unsafe impl<T: Send> Send for SliceItems<'_, T> {}
 // the feature `checked`.
 unsafe impl<T: Sync> Sync for SliceItems<'_, T> {}
 
-impl<'a, T, D, const STREAM: bool> SliceItems<'a, T, D, STREAM> {
+impl<'a, T, D> SliceItems<'a, T, D> {
     /// The `len` items from `first` on. Whoever uses the holder has borrowed them.
     #[inline(always)]
     pub(super) fn of(first: *mut T, len: usize) -> Self {
         let slice = PhantomData;
         SliceItems { first, len, slice }
+    }
+
+    /// The items of a source, which are only read: proved code has a shared reference to this holder.
+    #[inline(always)]
+    fn of_source(items: &'a [T]) -> Self {
+        SliceItems::of(items.as_ptr().cast_mut(), items.len())
     }
 
     #[inline(always)]
@@ -97,27 +105,17 @@ impl<'a, T> SliceItems<'a, T> {
     }
 
     #[inline(always)]
-    pub(super) fn in_registers<D: squares::Register<T>>(self) -> SliceItems<'a, T, D> {
+    pub(super) fn in_registers<D: Register<T>>(self) -> SliceItems<'a, T, D> {
         SliceItems::of(self.first, self.len)
     }
 }
 
-impl<T: Copy, D: squares::Register<T>> Output for SliceItems<'_, T, D> {
+impl<T: Copy, D: Register<T>> Output for SliceItems<'_, T, D> {
     const SIZE: usize = size_of::<T>();
     const IS_INLINED: bool = cfg!(not(debug_assertions));
     const TESTS_INDICES: bool = false;
     const HAS_REGISTERS: bool = USES_REGISTERS;
     const IS_X86_64: bool = cfg!(target_arch = "x86_64");
-
-    fn limits() -> Limits {
-        let (list, row, column) = (1 << 10, 1, 1);
-        // In most tests, short lists are put by lines too.
-        if cfg!(test) {
-            Limits { list, row, column }
-        } else {
-            Limits::of_users()
-        }
-    }
 
     fn address(&self) -> usize {
         self.first.addr()
@@ -132,7 +130,6 @@ impl<T: Copy, D: squares::Register<T>> Output for SliceItems<'_, T, D> {
         self
     }
 
-    /// Only this function makes a holder that stores past the caches.
     #[inline(always)]
     fn put_past_caches<W: PutRegion, R: Source<Item = T> + Copy>(
         self,
@@ -140,16 +137,15 @@ impl<T: Copy, D: squares::Register<T>> Output for SliceItems<'_, T, D> {
         matrix: Matrix<R>,
         region: Region,
     ) -> Self {
-        let SliceItems { first, len, .. } = self;
-        let _ = way.put(SliceItems::<T, D, true>::of(first, len), matrix, region);
+        let PastCaches(cells) = way.put(PastCaches(self), matrix, region);
         cache::fence();
-        SliceItems::of(first, len)
+        cells
     }
 }
 
 /// With debug assertions, functions that use registers have frames of their own: there a register is on the stack in each
 /// function that it goes through.
-impl<F, D: squares::Register<F>> Places for SliceItems<'_, F, D> {
+impl<F, D: Register<F>> Places for SliceItems<'_, F, D> {
     type Item = F;
 
     fn len(&self) -> usize {
@@ -199,36 +195,16 @@ impl<F, D: squares::Register<F>> Places for SliceItems<'_, F, D> {
         }
     }
 
-    /// Items that are not in registers are exchanged in squares of 4 by 4.
-    #[allow(clippy::needless_range_loop, reason = "a tile is reached by row and column")]
     #[cfg_attr(debug_assertions, inline(never))]
     #[cfg_attr(not(debug_assertions), inline(always))]
     fn exchange_tiles(&mut self, x: [usize; 8], y: [usize; 8]) {
-        if const { D::SIDE > 1 } {
-            return squares::exchange_tiles::<F, D, _>(self, x, y);
-        }
-        for row in (0..8).step_by(4) {
-            for col in (0..8).step_by(4) {
-                for r in row..row + 4 {
-                    for c in col..col + 4 {
-                        self.exchange(x[r] + c, y[c] + r);
-                    }
-                }
-            }
-        }
+        tiles::exchange_both::<F, D, _>(self, x, y);
     }
 
     #[cfg_attr(debug_assertions, inline(never))]
     #[cfg_attr(not(debug_assertions), inline(always))]
     fn turn_tile(&mut self, x: [usize; 8]) {
-        if const { D::SIDE > 1 } {
-            return squares::turn_tile::<F, D, _>(self, x);
-        }
-        for row in 0..8 {
-            for col in row + 1..8 {
-                self.exchange(x[row] + col, x[col] + row);
-            }
-        }
+        tiles::turn::<F, D, _>(self, x);
     }
 
     /// Prefetches the cache lines of both tiles if the list does not fit in a cache. The places may be outside. No
@@ -252,10 +228,12 @@ impl<F, D: squares::Register<F>> Places for SliceItems<'_, F, D> {
     }
 }
 
+impl<F, D: Register<F>> RunsOfPlaces<F, D> for SliceItems<'_, F, D> {}
+
 /// A list of at least this many bytes does not fit in a cache.
 const FAR_BYTES: usize = 1 << 23;
 
-impl<T: Copy, D: squares::Register<T>, const STREAM: bool> Cells for SliceItems<'_, T, D, STREAM> {
+impl<T: Copy, D: Register<T>> Cells for SliceItems<'_, T, D> {
     type Item = T;
 
     fn len(&self) -> usize {
@@ -284,32 +262,17 @@ impl<T: Copy, D: squares::Register<T>, const STREAM: bool> Cells for SliceItems<
     #[cfg_attr(debug_assertions, inline(never))]
     #[cfg_attr(not(debug_assertions), inline(always))]
     fn put_block<R: Source<Item = T>>(&mut self, source: &R, block: Block) {
-        let Some(items) = source.as_slice() else {
-            return put_singly(self, source, block);
-        };
-        // These items are only read: proved code has a shared reference to them.
-        let items = SliceItems::<T, D>::of(items.as_ptr().cast_mut(), items.len());
-        put_block(self, &items, source, block);
+        match source.as_slice() {
+            Some(items) => put_block_in_squares(self, &SliceItems::<T, D>::of_source(items), source, block),
+            None => put_singly(self, source, block),
+        }
     }
 }
 
-impl<T: Copy, D: squares::Register<T>, const STREAM: bool> RunsOfCells<T, D> for SliceItems<'_, T, D, STREAM> {
-    const STREAMS: bool = STREAM;
-    const SQUARE: usize = if D::SIDE > 1 && !STREAM {
-        SliceItems::<T, D>::SIDE
-    } else {
-        1
-    };
+impl<T: Copy, D: Register<T>> RunsOfCells<T, D> for SliceItems<'_, T, D> {}
 
-    /// Each column of the block has to be a line of the output. A fence follows.
-    #[inline(always)]
-    fn may_stream_lines(&self, block: Block) -> bool {
-        let first = self.first.wrapping_add(block.to).addr();
-        let distance = block.height * size_of::<T>() * usize::from(block.cols > 1);
-        let size = size_of::<T>().max(1);
-        let is_line = LINE % size == 0 && block.rows == LINE / size;
-        STREAM && is_line && (first | distance) % LINE == 0
-    }
+impl<T: Copy, D: Register<T>> SquaresOfCells<T, D> for SliceItems<'_, T, D> {
+    const SQUARE: usize = if D::SIDE > 1 { Self::SIDE } else { 1 };
 
     /// Prefetches the next cache line of each column of a square of 4 by 4. The processor makes its stores in order, so a store
     /// that waits for its cache line delays all stores after it. The places may be outside. No reference is made to them.
@@ -330,12 +293,12 @@ impl<T: Copy, D: squares::Register<T>, const STREAM: bool> RunsOfCells<T, D> for
 }
 
 /// Runs of the items, which fill half a register `D`. Here a run `may` be read and written if all of it is among the places
-/// of the step that is made, which are within the list by the precondition of the step's method. The holder `may_stream` it
-/// if it also begins at a multiple of 16 bytes, and a fence follows before the call or the part ends. A run of a source, which
-/// is only read, `may` be anywhere in the list. The functions of `kernels/registers.rs` are proved to touch no other run,
-/// whatever `may` and `may_stream` are. So that method may call them if it names no place but those of its step, and no run
-/// that ends after the source.
-impl<T, E, D: squares::Register<T>, const STREAM: bool> Runs<T, D> for SliceItems<'_, T, E, STREAM> {
+/// of the step that is made, which are within the list by the precondition of the step's method. A holder of the type
+/// [`PastCaches`] `may_stream` it if it also begins at a multiple of 16 bytes, and a fence follows before the call or the part
+/// ends. A run of a source, which is only read, `may` be anywhere in the list. The functions of `kernels/registers.rs` are
+/// proved to touch no other run, whatever `may` and `may_stream` are. So that method may call them if it names no place but
+/// those of its step, and no run that ends after the source.
+impl<T, E, D: Register<T>> Runs<T, D> for SliceItems<'_, T, E> {
     #[inline(always)]
     fn load(&self, place: usize) -> D::Half {
         debug_assert!(place <= self.len && size_of::<D::Half>() / size_of::<T>() <= self.len - place);
@@ -349,17 +312,67 @@ impl<T, E, D: squares::Register<T>, const STREAM: bool> Runs<T, D> for SliceItem
         // SAFETY: the run `may` be written, by the `requires` of `Runs::store`.
         unsafe { *self.first.wrapping_add(place).cast() = Unaligned(run) }
     }
+}
+
+/// The same cells, of which whole cache lines are stored past the caches. [`SliceItems::put_past_caches`] makes one, and a fence
+/// follows.
+pub(super) struct PastCaches<'a, T, D>(pub(super) SliceItems<'a, T, D>);
+
+impl<T: Copy, D: Register<T>> Cells for PastCaches<'_, T, D> {
+    type Item = T;
+
+    fn len(&self) -> usize {
+        self.0.len
+    }
+
+    #[inline(always)]
+    fn put(&mut self, i: usize, v: T) {
+        self.0.put(i, v);
+    }
+
+    #[cfg_attr(debug_assertions, inline(never))]
+    #[cfg_attr(not(debug_assertions), inline(always))]
+    fn put_block<R: Source<Item = T>>(&mut self, source: &R, block: Block) {
+        match source.as_slice() {
+            Some(items) => put_block_in_lines(self, &SliceItems::<T, D>::of_source(items), source, block),
+            None => put_singly(self, source, block),
+        }
+    }
+}
+
+impl<T: Copy, D: Register<T>> RunsOfCells<T, D> for PastCaches<'_, T, D> {}
+
+impl<T: Copy, D: Register<T>> LinesOfCells<T, D> for PastCaches<'_, T, D> {
+    /// Each column of the block has to be a line of the output. It has four runs, by the `requires` of this method.
+    #[inline(always)]
+    fn may_stream_lines(&self, block: Block) -> bool {
+        let first = self.0.first.wrapping_add(block.to).addr();
+        let distance = block.height * size_of::<T>() * usize::from(block.cols > 1);
+        4 * size_of::<D::Half>() == LINE && (first | distance) % LINE == 0
+    }
+}
+
+impl<T, D: Register<T>> Runs<T, D> for PastCaches<'_, T, D> {
+    #[inline(always)]
+    fn load(&self, place: usize) -> D::Half {
+        Runs::<T, D>::load(&self.0, place)
+    }
+
+    #[inline(always)]
+    fn store(&mut self, place: usize, run: D::Half) {
+        Runs::<T, D>::store(&mut self.0, place, run);
+    }
 
     /// Writes a register past the caches: its cache line is not read first. The function of `core::arch` would take a number.
     /// No race detector sees assembly, so `rust/test` makes ordinary stores for one (`ordinary_stores`).
     #[cfg(all(target_arch = "x86_64", target_feature = "sse2", not(ordinary_stores)))]
     #[inline(always)]
     fn stream(&mut self, place: usize, run: D::Half) {
-        debug_assert!(place <= self.len && 16 / size_of::<T>() <= self.len - place && size_of::<D::Half>() == 16);
-        debug_assert!(self.first.wrapping_add(place).addr() % 16 == 0);
-        let to = self.first.wrapping_add(place);
+        let to = self.0.first.wrapping_add(place);
+        debug_assert!(place <= self.0.len && 16 / size_of::<T>() <= self.0.len - place && size_of::<D::Half>() == 16);
+        debug_assert!(to.addr() % 16 == 0);
         // SAFETY: a run is a register here. The holder `may_stream` it, by the `requires` of `Runs::stream`: the method
-        // `may_stream` tests that.
+        // `may_stream_lines` tests that.
         unsafe {
             let run: Vector = core::mem::transmute_copy(&run);
             core::arch::asm!("movntdq [{}], {}", in(reg) to, in(xmm_reg) run, options(nostack, preserves_flags))

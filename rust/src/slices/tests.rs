@@ -13,14 +13,14 @@ use std::vec::Vec;
 #[cfg(not(feature = "checked"))]
 use super::holders::Bytes;
 #[cfg(not(feature = "checked"))]
-use super::holders::{Items, Vector};
+use super::holders::{Items, PastCaches, Vector};
 use super::holders::{SliceItems, SliceSource};
 use crate::kernels::bytes::plan_in_bytes;
-use crate::kernels::choice::side_of;
+use crate::kernels::choice::{Limits, side_of};
 use crate::kernels::kernel::HIGH_ROWS;
 use crate::kernels::places::{Block, Cells, Places, Source};
 #[cfg(not(feature = "checked"))]
-use crate::kernels::registers::blocks::RunsOfCells;
+use crate::kernels::registers::blocks::LinesOfCells;
 #[cfg(not(feature = "checked"))]
 use crate::kernels::registers::{Pair, Paired, Register, Runs, Single, Two};
 use crate::kernels::transpose::{Matrix, Strips, transpose_matrix, transpose_square};
@@ -33,6 +33,12 @@ type SliceStrips<const SIDE: usize> = Strips<SIDE, HIGH_ROWS>;
 pub(super) use super::holders::USES_REGISTERS;
 #[cfg(feature = "checked")]
 pub(super) const USES_REGISTERS: bool = false;
+
+/// From how many bytes on short lists are put by lines in tests that pass these limits.
+pub(super) const fn near() -> Limits {
+    let (list, row, column) = (1 << 10, 1, 1);
+    Limits { list, row, column }
+}
 
 /// The side of the blocks of items of `size` bytes.
 pub(super) const fn side_by_size(size: usize) -> usize {
@@ -459,8 +465,7 @@ pub(super) fn put_block<T: Copy, H: for<'a> Hold<'a, T, Holder: Cells<Item = T>>
 /// Puts a block by a holder that stores whole lines past the caches.
 #[cfg(not(feature = "checked"))]
 pub(super) fn put_past_caches<T: Copy, D: Register<T>>(cells: &mut [T], source: &[T], block: Block) {
-    let mut holder: SliceItems<T, D, true> = SliceItems::of(cells.as_mut_ptr(), cells.len());
-    holder.put_block(&SliceSource::new(source), block);
+    PastCaches(SliceItems::new(cells).in_registers::<D>()).put_block(&SliceSource::new(source), block);
 }
 
 #[test]
@@ -476,8 +481,8 @@ fn blocks_near_lines() {
     }
 }
 
-/// A block is stored past the caches only if each of its columns is a line of the output. If it has one column, their distance
-/// does not matter. Other holders store no block so.
+/// A block of this many rows is stored past the caches only if each of its columns is a line of the output. If it has one column,
+/// their distance does not matter. Registers that hold nothing store no block so.
 #[cfg(not(feature = "checked"))]
 #[test]
 fn blocks_of_lines() {
@@ -485,11 +490,8 @@ fn blocks_of_lines() {
         let line = 64 / size_of::<T>();
         let mut list = Aligned([T::default(); 600]);
         for (to, height) in (0..=2 * line).flat_map(|to| (line - 2..=3 * line).map(move |height| (to, height))) {
-            for (rows, cols) in [line / 2, line - 1, line, line + 1, 2 * line]
-                .into_iter()
-                .flat_map(|rows| [1, 2, line].map(|cols| (rows, cols)))
-            {
-                let (from, width) = (0, line);
+            for cols in [1, 2, line] {
+                let (rows, from, width) = (line, 0, line);
                 let block = Block {
                     rows,
                     cols,
@@ -498,10 +500,10 @@ fn blocks_of_lines() {
                     to,
                     height,
                 };
-                let is_line = rows == line && to % line == 0 && (cols == 1 || height % line == 0);
-                assert!(!SliceItems::new(&mut list.0).in_registers::<D>().may_stream_lines(block));
-                let cells: SliceItems<T, D, true> = SliceItems::of(list.0.as_mut_ptr(), list.0.len());
-                assert_eq!(cells.may_stream_lines(block), is_line, "{rows} {cols} {to} {height}");
+                let is_line = to % line == 0 && (cols == 1 || height % line == 0);
+                let cells = PastCaches(SliceItems::new(&mut list.0).in_registers::<D>());
+                assert_eq!(cells.may_stream_lines(block), is_line, "{cols} {to} {height}");
+                assert!(!PastCaches(SliceItems::new(&mut list.0)).may_stream_lines(block));
             }
         }
     }
@@ -718,7 +720,7 @@ mod refused {
 
         let mut list = Aligned([0; 24]);
         for len in 16..=20 {
-            let mut places = SliceItems::new(&mut list.0[..len]);
+            let mut places = PastCaches(SliceItems::new(&mut list.0[..len]).in_registers::<Pair<Of<4>>>());
             let run = Runs::<u32, Pair<Of<4>>>::load(&places, 0);
             for place in 0..=20 {
                 let is_wrong = place + 4 > len || place % 4 != 0;

@@ -5,29 +5,36 @@ use crate::kernels::registers::line_blocks::put_by_lines;
 use crate::kernels::registers::{Register, Runs, put_by_squares};
 use crate::kernels::places::{Block, Cells, Source};
 
-/// Cells that are put by registers, too.
-pub(crate) trait RunsOfCells<T: Copy, D: Register<T>>: Runs<T, D> + Cells<Item = T> {
-    /// Whether the holder stores whole lines past the caches.
-    const STREAMS: bool;
+/// Cells into which runs are put, too.
+pub(crate) trait RunsOfCells<T: Copy, D: Register<T>>: Runs<T, D> + Cells<Item = T> {}
 
+/// Cells into which some blocks are put by squares that are transposed in registers.
+pub(crate) trait SquaresOfCells<T: Copy, D: Register<T>>: RunsOfCells<T, D> {
     /// The side of the blocks that the holder transposes in registers, or 1.
     const SQUARE: usize;
-
-    /// Whether each column of a block is a line that may be streamed.
-    ///
-    /// # Contract
-    ///
-    /// ```text
-    /// ensures { IsTrue result → LinesReached D.SIDE block (Self.Runs.may_stream (Self.Runs.reach self.now)) }
-    /// ```
-    fn may_stream_lines(&self, block: Block) -> bool;
 
     /// Only for speed: a hint that a square is put, and that the next cells of its columns may be put soon.
     fn expect_columns(&self, square: Block);
 }
 
-/// Does what `Cells::put_block` does. Registers are read from `runs`, which has the items of the source. A holder may read
-/// each run of these, and put each run that is within a column of the block.
+/// Cells into which some blocks are put by whole lines, past the caches.
+pub(crate) trait LinesOfCells<T: Copy, D: Register<T>>: RunsOfCells<T, D> {
+    /// Whether each column of a block of this many rows is a line that may be streamed.
+    ///
+    /// # Contract
+    ///
+    /// ```text
+    /// requires lines { block.rows ≡ 4 * D.SIDE }
+    /// requires room { (r c : ℕ) → r < block.rows → c < block.cols
+    ///     → block.to + c * block.height + r < length (Self.Runs.items self.now) }
+    /// ensures { IsTrue result → LinesReached D.SIDE block (Self.Runs.may_stream (Self.Runs.reach self.now)) }
+    /// ```
+    fn may_stream_lines(&self, block: Block) -> bool;
+}
+
+/// Does what `Cells::put_block` does: by squares if the block is one that the holder transposes in registers, and otherwise item
+/// by item. Registers are read from `runs`, which has the items of the source. A holder may read each run of these, and put each
+/// run that is within a column of the block.
 ///
 /// # Contract
 ///
@@ -42,20 +49,14 @@ pub(crate) trait RunsOfCells<T: Copy, D: Register<T>>: Runs<T, D> + Cells<Item =
 /// ensures holder { M.Cells.same_holder (block_items block) cells.old cells.new }
 /// ```
 #[inline(always)]
-pub(crate) fn put_block<
+pub(crate) fn put_block_in_squares<
     T: Copy,
     D: Register<T>,
     S: Runs<T, D>,
     R: Source<Item = T>,
-    M: RunsOfCells<T, D>,
+    M: SquaresOfCells<T, D>,
 >(cells: &mut M, runs: &S, source: &R, block: Block) {
-    let (side, len) = (D::SIDE, source.len());
-    if M::STREAMS {
-        if cells.may_stream_lines(block) && is_of_lines(side, block, len) {
-            put_by_lines(cells, runs, block);
-            return;
-        }
-    }
+    let side = D::SIDE;
     match M::SQUARE {
         0 | 1 => {}
         square => {
@@ -65,6 +66,35 @@ pub(crate) fn put_block<
                 return;
             }
         }
+    }
+    put_singly(cells, source, block);
+}
+
+/// Does what `Cells::put_block` does: by whole lines if the holder may stream the lines of the block, and otherwise item by item.
+/// Registers are read from `runs`, which has the items of the source. A holder may read each run of these.
+///
+/// # Contract
+///
+/// ```text
+/// requires same { S.items runs.now ≡ R.items source.now }
+/// requires fits { BlockFits block (length (R.items source.now)) (length (M.Cells.items cells.old)) }
+/// requires reads { (p : ℕ) → p + D.SIDE ≤ length (R.items source.now) → S.may (S.reach runs.now) p }
+/// ensures put { IsBlockPut (block_items block) block (R.items source.now)
+///     (M.Cells.items cells.old) (M.Cells.items cells.new) }
+/// ensures holder { M.Cells.same_holder (block_items block) cells.old cells.new }
+/// ```
+#[inline(always)]
+pub(crate) fn put_block_in_lines<
+    T: Copy,
+    D: Register<T>,
+    S: Runs<T, D>,
+    R: Source<Item = T>,
+    M: LinesOfCells<T, D>,
+>(cells: &mut M, runs: &S, source: &R, block: Block) {
+    let (side, len) = (D::SIDE, source.len());
+    if is_of_lines(side, block, len) && cells.may_stream_lines(block) {
+        put_by_lines(cells, runs, block);
+        return;
     }
     put_singly(cells, source, block);
 }

@@ -33,7 +33,8 @@ fn load_lines<T, D: Register<T>, S: Runs<T, D>>(list: &S, from: usize, width: us
 /// requires first { M.may_stream (M.reach list.old) first }
 /// requires second { M.may_stream (M.reach list.old) second }
 /// ensures stored { IsStored D.SIDE first second (D.items rows) (M.items list.old) (M.items list.new) }
-/// ensures holder { M.reach list.new ≡ M.reach list.old }
+/// ensures reach { M.reach list.new ≡ M.reach list.old }
+/// ensures holder { M.same_holder (2 * D.SIDE) list.old list.new }
 /// ```
 #[inline(always)]
 fn stream_two<T, D: Register<T>, M: Runs<T, D>>(list: &mut M, first: usize, second: usize, rows: D) {
@@ -54,7 +55,8 @@ fn stream_two<T, D: Register<T>, M: Runs<T, D>>(list: &mut M, first: usize, seco
 /// requires reached { (k : ℕ) → k < 4 → M.may_stream (M.reach list.old) (block.to + col * block.height + k * D.SIDE) }
 /// ensures stored { IsRunStored block.rows (block.to + col * block.height) (D.items a ++ D.items b)
 ///     (M.items list.old) (M.items list.new) }
-/// ensures holder { M.reach list.new ≡ M.reach list.old }
+/// ensures reach { M.reach list.new ≡ M.reach list.old }
+/// ensures holder { M.same_holder block.rows list.old list.new }
 /// ```
 #[inline(always)]
 fn put_line<T, D: Register<T>, M: Runs<T, D>>(list: &mut M, block: Block, col: usize, a: D, b: D) {
@@ -78,7 +80,8 @@ fn put_line<T, D: Register<T>, M: Runs<T, D>>(list: &mut M, block: Block, col: u
 /// requires source_len_fits { length (S.items source.now) < 2 ^ 63 }
 /// requires cells_len_fits { length (M.items cells.old) < 2 ^ 63 }
 /// ensures put { ColumnsPut col (col + D.SIDE) block (S.items source.now) (M.items cells.old) (M.items cells.new) }
-/// ensures holder { M.reach cells.new ≡ M.reach cells.old }
+/// ensures reach { M.reach cells.new ≡ M.reach cells.old }
+/// ensures holder { M.same_holder (block.rows * D.SIDE) cells.old cells.new }
 /// ```
 #[inline(never)]
 fn put_some_lines<T, D: Register<T>, S: Runs<T, D>, M: Runs<T, D>>(
@@ -117,7 +120,8 @@ fn put_some_lines<T, D: Register<T>, S: Runs<T, D>, M: Runs<T, D>>(
 /// requires source_len_fits { length (S.items source.now) < 2 ^ 63 }
 /// requires cells_len_fits { length (M.items cells.old) < 2 ^ 63 }
 /// ensures put { ColumnsPut 0 block.cols block (S.items source.now) (M.items cells.old) (M.items cells.new) }
-/// ensures holder { M.reach cells.new ≡ M.reach cells.old }
+/// ensures reach { M.reach cells.new ≡ M.reach cells.old }
+/// ensures holder { M.same_holder block.rows cells.old cells.new }
 /// ```
 #[inline(always)]
 fn put_one_line<T, D: Register<T>, S: Runs<T, D>, M: Runs<T, D>>(
@@ -149,7 +153,8 @@ fn put_one_line<T, D: Register<T>, S: Runs<T, D>, M: Runs<T, D>>(
 /// requires source_len_fits { length (S.items source.now) < 2 ^ 63 }
 /// requires cells_len_fits { length (M.items cells.old) < 2 ^ 63 }
 /// ensures put { ColumnsPut col (col + 1) block (S.items source.now) (M.items cells.old) (M.items cells.new) }
-/// ensures holder { M.reach cells.new ≡ M.reach cells.old }
+/// ensures reach { M.reach cells.new ≡ M.reach cells.old }
+/// ensures holder { M.same_holder block.rows cells.old cells.new }
 /// ```
 #[inline(always)]
 fn put_four<T, D: Register<T>, S: Runs<T, D>, M: Runs<T, D>>(
@@ -178,7 +183,8 @@ fn put_four<T, D: Register<T>, S: Runs<T, D>, M: Runs<T, D>>(
 /// requires reads { ColumnsReached D.SIDE block (S.may (S.reach source.now)) }
 /// requires writes { LinesReached D.SIDE block (M.may_stream (M.reach cells.old)) }
 /// ensures put { IsBlockPut (block_items block) block (S.items source.now) (M.items cells.old) (M.items cells.new) }
-/// ensures holder { M.reach cells.new ≡ M.reach cells.old }
+/// ensures reach { M.reach cells.new ≡ M.reach cells.old }
+/// ensures holder { M.same_holder (block_items block) cells.old cells.new }
 /// ```
 #[inline(always)]
 pub(crate) fn put_by_lines<T, D: Register<T>, S: Runs<T, D>, M: Runs<T, D>>(

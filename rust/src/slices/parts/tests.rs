@@ -189,7 +189,7 @@ fn puts_alone<const N: usize>() {
         for number in 0..plan.count() {
             let (mut output, mut wanted) = (blank.clone(), blank.clone());
             let part = transpose(&input, &mut output, width, height, asked).nth(number);
-            part.unwrap().run();
+            part.unwrap().run_near();
             let matrix = Matrix::new(source, width, height);
             let _ = Order::Leaves(strips).put(SliceCells::new(&mut wanted), matrix, plan.region(number));
             let is_wanted = output.as_flattened() == wanted.as_flattened();
@@ -211,6 +211,8 @@ fn each_part_alone() {
     }
     sizes!(1 2 3 4 8 12 16 20 24 32 40 48 64);
 }
+
+mod near;
 
 #[cfg(not(feature = "checked"))]
 mod races;

@@ -1,17 +1,17 @@
-//! Tests of transposes by cache lines, in two parts and more. In these tests a list of 1024 bytes is long enough for that.
+//! Tests of transposes by cache lines, in two parts and more. For `run_near` a list of 1024 bytes is long enough for that.
 
 use core::cell::Cell;
 use std::boxed::Box;
 use std::fmt::Debug;
 use std::vec::Vec;
 
-use super::{Aligned, transposed};
+use super::{Aligned, Of, transposed};
 use crate::kernels::lines::Lines;
 use crate::kernels::places::{Block, Cells, Source};
-use crate::kernels::registers::Two;
-use crate::kernels::registers::blocks::RunsOfCells;
+use crate::kernels::registers::Pair;
+use crate::kernels::registers::blocks::LinesOfCells;
 use crate::kernels::transpose::{Matrix, PutRegion};
-use crate::slices::holders::{SliceItems, SliceSource};
+use crate::slices::holders::{PastCaches, SliceItems, SliceSource};
 use crate::slices::parts::{TransposePart, transpose};
 
 /// Transposes a matrix in some parts, and compares each item of the output with that of the definition. `input` and
@@ -29,7 +29,7 @@ fn transposes<T: Copy + Debug + PartialEq + Send + Sync>(
     let mut all: Vec<_> = transpose(&list[input..], &mut cells[output..output + len], width, height, parts).collect();
     // Another order for each shape.
     while !all.is_empty() {
-        all.swap_remove((7 * width + 3 * height) % all.len()).run();
+        all.swap_remove((7 * width + 3 * height) % all.len()).run_near();
     }
     let wanted = |place: usize| match place.checked_sub(output) {
         Some(place) if place < len => list[input + transposed(width, height, place)],
@@ -69,7 +69,7 @@ fn all_addresses() {
             items: [[0; 4]; 33 * 48],
         });
         let input: Vec<[u8; 4]> = (0..33 * 48u32).map(u32::to_le_bytes).collect();
-        transpose(&input, &mut list.items, 33, 48, 3).for_each(TransposePart::run);
+        transpose(&input, &mut list.items, 33, 48, 3).for_each(TransposePart::run_near);
         let wanted = |place: usize| input[place % 48 * 33 + place / 48];
         assert!(list.items.iter().enumerate().all(|(place, got)| *got == wanted(place)));
         assert_eq!(list.before, [9; BYTES]);
@@ -128,7 +128,7 @@ fn padding_and_pointers() {
 
 /// Counts the lines that a holder may stream, and puts nothing.
 struct Streamed<'a> {
-    cells: SliceItems<'a, u32, Two<()>, true>,
+    cells: PastCaches<'a, u32, Pair<Of<4>>>,
     lines: usize,
 }
 
@@ -136,13 +136,14 @@ impl Cells for Streamed<'_> {
     type Item = u32;
 
     fn len(&self) -> usize {
-        Cells::len(&self.cells)
+        self.cells.len()
     }
 
     fn put(&mut self, _: usize, _: u32) {}
 
     fn put_block<R: Source<Item = u32>>(&mut self, _: &R, block: Block) {
-        self.lines += block.cols * usize::from(self.cells.may_stream_lines(block));
+        let is_streamed = block.rows == 16 && self.cells.may_stream_lines(block);
+        self.lines += block.cols * usize::from(is_streamed);
     }
 }
 
@@ -152,7 +153,7 @@ fn lines_at_all_offsets() {
     for (before, width, height) in (0..16).flat_map(|before| (1..=48).map(move |height| (before, 12, height))) {
         let (source, mut list) = ([0; 12 * 48], Aligned([0; 600]));
         let len = width * height;
-        let cells = SliceItems::of(list.0[before..before + len].as_mut_ptr(), len);
+        let cells = PastCaches(SliceItems::new(&mut list.0[before..before + len]).in_registers());
         let matrix = Matrix::new(SliceSource::new(&source[..len]), width, height);
         let put = Lines::new(16, before).put(Streamed { cells, lines: 0 }, matrix, matrix.whole());
         let within = |x: usize| {

@@ -4,7 +4,7 @@
 use core::ops::Range;
 use std::vec::Vec;
 
-use super::{SliceItems, USES_REGISTERS, side_by_size};
+use super::{SliceItems, USES_REGISTERS, near, side_by_size};
 use crate::kernels::calls::{Output, transpose_region, transpose_whole};
 #[cfg(feature = "checked")]
 use crate::kernels::choice::row_blocks_of;
@@ -55,7 +55,7 @@ impl<'a, const N: usize> Output for Told<'a, N> {
     const IS_X86_64: bool = Held::<'a, N>::IS_X86_64;
 
     fn limits() -> Limits {
-        Held::<'a, N>::limits()
+        near()
     }
 
     fn address(&self) -> usize {

@@ -1,7 +1,8 @@
 -- The halves of the registers are stored one after another.
-use Rattle.std.proofs.Common.{◌≡◌, arith}
+use Rattle.std.proofs.Common.{◌≡◌, ◌*◌, arith}
 use Rattle.p3_util_registers.specs.Registers.{items_of_four}
 use Rattle.p3_util_registers.proofs.RegistersRuns.{AreRunsStored-more, AreRunsStored-none, AreStored-runs, by_fours, by_twos, by_twos_of_four, first_half, second_half}
+use Rattle.p3_util_registers.proofs.RegistersSteps.{four_times, twice}
 use Rattle.p3_util_registers.proofs.registers.store_columns.Goals as goal
 
 pub returns-then-side-eq4-clause-stored : goal.returns-then-side-eq4-clause-stored
@@ -50,3 +51,25 @@ returns-clause-stored g c =
     (more 1 _ _ _ _ (omega arith) (first_half _ _ _ c.halves-b.ensures.first)
     (more 0 _ _ _ _ (omega arith) (first_half _ _ _ c.halves-a.ensures.first)
     (AreRunsStored-none _ _ _ _ _) c.store-2.ensures.stored) c.store-3.ensures.stored) c.store-4.ensures.stored) c.store-5.ensures.stored) c.store-6.ensures.stored) c.store-7.ensures.stored) c.store-8.ensures.stored) c.store-9.ensures.stored))
+
+pub returns-then-side-eq4-clause-holder : goal.returns-then-side-eq4-clause-holder
+returns-then-side-eq4-clause-holder g c =
+    let count : c.args.count ≡ 8 = grind (arith, c.requires.known, c.requires.squares, c.if-side-eq4.true) in
+    rw count
+    (twice _ g.M.Runs.same_holder g.met.M.Runs.same_holder_trans (4 * g.D.Register.SIDE) _ _ _ _
+    (four_times _ g.M.Runs.same_holder g.met.M.Runs.same_holder_trans g.D.Register.SIDE (4 * g.D.Register.SIDE) _ _ _ _ _ c.store.ensures.holder c.store-then-side-eq4.ensures.holder c.store-then-side-eq4-2.ensures.holder c.store-then-side-eq4-3.ensures.holder (omega arith))
+    (four_times _ g.M.Runs.same_holder g.met.M.Runs.same_holder_trans g.D.Register.SIDE (4 * g.D.Register.SIDE) _ _ _ _ _ c.store-then-side-eq4-4.ensures.holder c.store-then-side-eq4-5.ensures.holder c.store-then-side-eq4-6.ensures.holder c.store-then-side-eq4-7.ensures.holder (omega arith))
+    (omega arith))
+
+pub returns-then-count-eq4-clause-holder : goal.returns-then-count-eq4-clause-holder
+returns-then-count-eq4-clause-holder g c =
+    rw c.if-count-eq4.true (four_times _ g.M.Runs.same_holder g.met.M.Runs.same_holder_trans g.D.Register.SIDE _ _ _ _ _ _ c.store-then-count-eq4.ensures.holder c.store-then-count-eq4-2.ensures.holder c.store-then-count-eq4-3.ensures.holder c.store-then-count-eq4-4.ensures.holder (omega arith))
+
+pub returns-clause-holder : goal.returns-clause-holder
+returns-clause-holder g c =
+    let count : c.args.count ≡ 8 = grind (arith, c.requires.known, c.if-count-eq4.false) in
+    rw count
+    (twice _ g.M.Runs.same_holder g.met.M.Runs.same_holder_trans (4 * g.D.Register.SIDE) _ _ _ _
+    (four_times _ g.M.Runs.same_holder g.met.M.Runs.same_holder_trans g.D.Register.SIDE (4 * g.D.Register.SIDE) _ _ _ _ _ c.store-2.ensures.holder c.store-3.ensures.holder c.store-4.ensures.holder c.store-5.ensures.holder (omega arith))
+    (four_times _ g.M.Runs.same_holder g.met.M.Runs.same_holder_trans g.D.Register.SIDE (4 * g.D.Register.SIDE) _ _ _ _ _ c.store-6.ensures.holder c.store-7.ensures.holder c.store-8.ensures.holder c.store-9.ensures.holder (omega arith))
+    (omega arith))

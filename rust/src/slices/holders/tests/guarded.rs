@@ -7,7 +7,7 @@ use std::ptr::null_mut;
 
 use super::super::{SliceItems, SliceSource, USES_REGISTERS};
 use crate::kernels::places::{Block, Cells, Places, Source};
-use crate::kernels::registers::blocks::RunsOfCells;
+use crate::kernels::registers::blocks::SquaresOfCells;
 use crate::kernels::registers::{Pair, Register, Two};
 use crate::slices::parts::{TransposePart, transpose};
 use crate::slices::tests::*;
@@ -237,8 +237,8 @@ fn lines_touch_their_places_alone() {
     }
 }
 
-/// Transposes whole matrices, all of whose items can be read or written, but nothing beside them. In these tests the parts of a
-/// list of 1024 bytes are put by lines. The whole calls are too short for that.
+/// Transposes whole matrices, all of whose items can be read or written, but nothing beside them. The parts of a list of 1024
+/// bytes are put by lines. The whole calls are too short for that.
 #[test]
 fn transposes_touch_their_lists_alone() {
     fn transposes<const N: usize>() {
@@ -250,7 +250,8 @@ fn transposes_touch_their_lists_alone() {
                 let mut cells = Runs::<N>::new(1, len, ends_with_page);
                 match parts {
                     0 => crate::slices::transpose(source.list(), cells.list(), width, height),
-                    _ => transpose(source.list(), cells.list(), width, height, 2 * parts).for_each(TransposePart::run),
+                    _ => transpose(source.list(), cells.list(), width, height, 2 * parts)
+                        .for_each(TransposePart::run_near),
                 }
                 cells.has(|_, k| (0, transposed(width, height, k)));
             }

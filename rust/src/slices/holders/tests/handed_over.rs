@@ -70,7 +70,7 @@ fn transposes_are_seen_by_a_flag() {
             };
             let parts = if round % 2 == 0 { 2 } else { 4 };
             shared.take(WRITES, next, |list| {
-                transpose(&input, list, WIDTH, HEIGHT, parts).for_each(TransposePart::run);
+                transpose(&input, list, WIDTH, HEIGHT, parts).for_each(TransposePart::run_near);
             });
             if next == DONE {
                 break;

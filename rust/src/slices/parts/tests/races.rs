@@ -66,7 +66,7 @@ fn transposes<T: Number>(width: usize, height: usize, parts: usize, threads: usi
     run_on(
         threads,
         transpose(&input, &mut output, width, height, parts),
-        TransposePart::run,
+        TransposePart::run_near,
     );
     let wanted = |place| T::of(transposed(width, height, place));
     assert!(output.into_iter().eq((0..input.len()).map(wanted)));
@@ -130,7 +130,7 @@ fn overlapping_regions() {
     let TransposeParts(parts) = transpose(&input, &mut output, 64, 64, 1);
     let cuts = [(2, 0), (4, 1)].map(|(count, part)| (TransposePlan::new(64, 64, count, true), part));
     let both = of_both(parts, cuts);
-    run_all(both.map(|part| std::vec![TransposePart(part)]), TransposePart::run);
+    run_all(both.map(|part| std::vec![TransposePart(part)]), TransposePart::run_near);
 }
 
 /// 2^8 rows of three items, which are a square of 16 by 16 rows.

@@ -3,6 +3,7 @@ use Rattle.std.proofs.Common.{◌≡◌, ℕ, ◌+◌, ◌*◌, List, inl, inr, 
 use Rattle.p3_util_kernels.specs.declared.places.Block.{Block}
 use Rattle.p3_util_registers.specs.Registers.{ColumnsPut}
 use Rattle.p3_util_registers.proofs.RegistersBlocks.{ColumnsPut-joined, IsBlockPut-whole}
+use Rattle.p3_util_registers.proofs.RegistersSteps.{four_times}
 use Rattle.p3_util_registers.proofs.registers.line_blocks.put_by_lines.Goals as goal
 
 -- the same columns
@@ -44,3 +45,18 @@ returns-clause-put g c =
     (join 0 (2 * side) (3 * side) _ _ _ _ (omega arith) (omega arith)
     (join 0 side (2 * side) _ _ _ _ (omega arith) (omega arith) (rw one at c.put_some_lines.ensures.put) (rw two at c.put_some_lines-2.ensures.put))
     (rw three at c.put_some_lines-3.ensures.put)) (rw four at c.put_some_lines-4.ensures.put))
+
+pub returns-then-block-gt1-clause-holder : goal.returns-then-block-gt1-clause-holder
+returns-then-block-gt1-clause-holder g c =
+    let square : c.args.block.cols ≡ 4 = elim c.requires.cols [ inl one ↦ absurd (omega (arith, one)) | inr all ↦ omega (arith, all, c.requires.lines) ] in
+    rw square
+    (four_times _ g.M.Runs.same_holder g.met.M.Runs.same_holder_trans c.args.block.rows _ _ _ _ _ _ c.put_four.ensures.holder c.put_four-then-block-gt1.ensures.holder c.put_four-then-block-gt1-2.ensures.holder c.put_four-then-block-gt1-3.ensures.holder
+    (omega arith))
+
+pub returns-clause-holder : goal.returns-clause-holder
+returns-clause-holder g c =
+    let half = g.D.Register.SIDE in
+    let square : c.args.block.cols ≡ 4 * half = elim c.requires.cols [ inl one ↦ absurd (c.if-block-eq1.false one) | inr all ↦ omega (arith, all, c.requires.lines) ] in
+    rw square
+    (four_times _ g.M.Runs.same_holder g.met.M.Runs.same_holder_trans (c.args.block.rows * half) _ _ _ _ _ _ c.put_some_lines.ensures.holder c.put_some_lines-2.ensures.holder c.put_some_lines-3.ensures.holder c.put_some_lines-4.ensures.holder
+    (omega arith))

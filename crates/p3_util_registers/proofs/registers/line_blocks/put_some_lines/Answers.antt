@@ -3,6 +3,7 @@ use Rattle.std.proofs.Common.{◌≡◌, ◌+◌, ◌-◌, ◌*◌, inr, refl, a
 use Rattle.p3_util_registers.specs.Registers.{items_of_four}
 use Rattle.p3_util_registers.proofs.RegistersBlocks.{ColumnsPut-joined}
 use Rattle.p3_util_registers.proofs.RegistersLines.{ColumnsPut-of_8, ColumnsPut-of_16, other, some}
+use Rattle.p3_util_registers.proofs.RegistersSteps.{four_times}
 use Rattle.p3_util_registers.proofs.registers.line_blocks.put_some_lines.Goals as goal
 
 pub load_lines-top-requires-clause-inside : goal.load_lines-top-requires-clause-inside
@@ -74,3 +75,8 @@ returns-clause-put g c =
     (ColumnsPut-of_16 g.D.Register.SIDE c.args.col (c.args.col + 1) (c.args.col + 2) c.args.block _ _ _ _ _ c.requires.lines (g.met.D.Register.full _) (omega arith) c.put_line-3.ensures.stored half top bottom c.load_lines-top.ensures c.load_lines-bottom.ensures 1 (omega arith) (omega arith) (λ r. refl) (λ r. refl)))
     (ColumnsPut-of_16 g.D.Register.SIDE c.args.col (c.args.col + 2) (c.args.col + 3) c.args.block _ _ _ _ _ c.requires.lines (g.met.D.Register.full _) (omega arith) c.put_line-4.ensures.stored half top bottom c.load_lines-top.ensures c.load_lines-bottom.ensures 2 (omega arith) (omega arith) (λ r. refl) (λ r. refl)))
     (ColumnsPut-of_16 g.D.Register.SIDE c.args.col (c.args.col + 3) (c.args.col + 4) c.args.block _ _ _ _ _ c.requires.lines (g.met.D.Register.full _) (omega arith) c.put_line-5.ensures.stored half top bottom c.load_lines-top.ensures c.load_lines-bottom.ensures 3 (omega arith) (omega arith) (λ r. refl) (λ r. refl)))
+
+pub returns-clause-holder : goal.returns-clause-holder
+returns-clause-holder g c =
+    rw (other c.requires.some_side c.SIDE-side.ensures c.if-side-eq2.false)
+    (four_times _ g.M.Runs.same_holder g.met.M.Runs.same_holder_trans c.args.block.rows _ _ _ _ _ _ c.put_line-2.ensures.holder c.put_line-3.ensures.holder c.put_line-4.ensures.holder c.put_line-5.ensures.holder (omega arith))

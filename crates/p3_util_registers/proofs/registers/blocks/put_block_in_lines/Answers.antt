@@ -1,0 +1,12 @@
+-- The runs that are read are within the source.
+use Rattle.std.proofs.Common.{inl, inr, refl, arith}
+use Rattle.p3_util_registers.proofs.RegistersBlocks.{run_inside}
+use Rattle.p3_util_registers.proofs.registers.blocks.put_block_in_lines.Goals as goal
+
+pub put_by_lines-requires-clause-reads : goal.put_by_lines-requires-clause-reads
+put_by_lines-requires-clause-reads g c = λ r col hr hc.
+    c.requires.reads _
+    (elim hc [
+      | inl first ↦ omega (arith, first, c.if-is_of_lines.ensures.inside refl r hr, c.SIDE-side.ensures, c.len-len.ensures)
+      | inr within ↦ run_inside c.args.block _ g.D.Register.SIDE r col c.requires.fits.inside (grind (arith, c.if-is_of_lines.ensures.side refl, c.SIDE-side.ensures)) hr within
+    ])

@@ -1,0 +1,106 @@
+// rust/erase writes this file from crates/p3_util_registers/src/registers/tiles.rt. Make changes there.
+//! How a holder exchanges two tiles, or transposes one: in registers, or by single exchanges.
+
+use crate::kernels::registers::{Register, Runs, exchange_tiles, turn_tile};
+use crate::kernels::places::Places;
+
+/// Places of which tiles are exchanged and transposed by runs, too.
+pub(crate) trait RunsOfPlaces<T, D: Register<T>>: Runs<T, D> + Places<Item = T> {}
+
+/// Does what `Places::exchange_tiles` does: in registers if squares have 2, 4 or 8 rows, and otherwise item by item.
+///
+/// # Contract
+///
+/// ```text
+/// requires tiles { AreTiles x y (length (M.Places.items list.old)) }
+/// requires reached_x { RowsReached 8 D.SIDE (slice_index x) (M.Runs.may (M.Runs.reach list.old)) }
+/// requires reached_y { RowsReached 8 D.SIDE (slice_index y) (M.Runs.may (M.Runs.reach list.old)) }
+/// ensures exchanged { TilesExchanged 64 x y (M.Places.items list.old) (M.Places.items list.new) }
+/// ensures holder { M.Places.same_holder 64 list.old list.new }
+/// ```
+#[inline(always)]
+pub(crate) fn exchange_both<T, D: Register<T>, M: RunsOfPlaces<T, D>>(
+    list: &mut M,
+    x: [usize; 8],
+    y: [usize; 8],
+) {
+    match D::SIDE {
+        2 | 4 | 8 => exchange_tiles(list, x, y),
+        _ => exchange_singly(list, x, y),
+    }
+}
+
+/// Does what `Places::turn_tile` does: in registers if squares have 2, 4 or 8 rows, and otherwise item by item.
+///
+/// # Contract
+///
+/// ```text
+/// requires tile { IsTile x (length (M.Places.items list.old)) }
+/// requires reached { RowsReached 8 D.SIDE (slice_index x) (M.Runs.may (M.Runs.reach list.old)) }
+/// ensures turned { TileTurned 64 x (M.Places.items list.old) (M.Places.items list.new) }
+/// ensures holder { M.Places.same_holder 28 list.old list.new }
+/// ```
+#[inline(always)]
+pub(crate) fn turn<T, D: Register<T>, M: RunsOfPlaces<T, D>>(list: &mut M, x: [usize; 8]) {
+    match D::SIDE {
+        2 | 4 | 8 => turn_tile(list, x),
+        _ => turn_singly(list, x),
+    }
+}
+
+/// Exchanges two tiles item by item, in squares of 4 by 4.
+///
+/// # Contract
+///
+/// ```text
+/// requires { AreTiles x y (length (M.items list.old)) }
+/// ensures exchanged { TilesExchanged 64 x y (M.items list.old) (M.items list.new) }
+/// ensures holder { M.same_holder 64 list.old list.new }
+/// ```
+#[inline(always)]
+fn exchange_singly<M: Places>(list: &mut M, x: [usize; 8], y: [usize; 8]) {
+    exchange_square(list, x, y, 0, 0);
+    exchange_square(list, x, y, 0, 4);
+    exchange_square(list, x, y, 4, 0);
+    exchange_square(list, x, y, 4, 4);
+}
+
+/// Exchanges the square of 4 by 4 items of a tile from row `row` and column `col` on, with its mirror image in another tile.
+///
+/// # Contract
+///
+/// ```text
+/// requires tiles { AreTiles x y (length (M.items list.old)) }
+/// requires row { row + 4 ≤ 8 }
+/// requires col { col + 4 ≤ 8 }
+/// ensures exchanged { ItemsExchanged (IsSquareOf row col 16) x y (M.items list.old) (M.items list.new) }
+/// ensures holder { M.same_holder 16 list.old list.new }
+/// ```
+#[inline(always)]
+fn exchange_square<M: Places>(list: &mut M, x: [usize; 8], y: [usize; 8], row: usize, col: usize) {
+    let _len = list.len();
+    for r in 0..4 {
+        for c in 0..4 {
+            list.exchange(x[row + r] + (col + c), y[col + c] + (row + r));
+        }
+    }
+}
+
+/// Transposes a tile item by item.
+///
+/// # Contract
+///
+/// ```text
+/// requires { IsTile x (length (M.items list.old)) }
+/// ensures turned { TileTurned 64 x (M.items list.old) (M.items list.new) }
+/// ensures holder { M.same_holder 28 list.old list.new }
+/// ```
+#[inline(always)]
+fn turn_singly<M: Places>(list: &mut M, x: [usize; 8]) {
+    let _len = list.len();
+    for row in 0..8 {
+        for col in row + 1..8 {
+            list.exchange(x[row] + col, x[col] + row);
+        }
+    }
+}
