@@ -7,3 +7,4 @@ pub(crate) mod calls;
 pub(crate) mod choice;
 mod laws;
 pub(crate) mod part;
+mod witness;
