@@ -105,7 +105,7 @@ impl Cells for ByBlocks {
 /// counts each item of the block.
 #[test]
 fn blocks_by_a_holder_of_ones_own() {
-    for (width, height) in [(16, 16), (16, 15), (32, 32), (48, 20), (16, 64)] {
+    for (width, height) in [(16, 16), (16, 17), (32, 32), (48, 20), (16, 64)] {
         let input: Vec<u64> = (0..(width * height) as u64).collect();
         let by_rows = |rows| {
             let noted = Noted::numbered(input.len());
