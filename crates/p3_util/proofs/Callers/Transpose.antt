@@ -46,7 +46,7 @@ module _ {A : Type 0} where
       → changed ≡ map f mid → IsTranspose height width old mid → length old ≡ height * width → new ≡ map f old
   mapped_in_transpose f width height old mid changed new second step first fits =
       transposed_back width height (map f old) (map f mid) new (rw step at second) (transpose_of_map f height width old mid first)
-          (length-map old f ∙ fits)
+      (length-map old f ∙ fits)
 
   -- the first row and the first column of a transpose
   pub first_in_rows : (width height x p : ℕ) (old new : List A) → IsTranspose width height old new → p ≡ x * height → x < width → 0 < height
