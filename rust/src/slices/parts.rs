@@ -86,6 +86,11 @@ struct PartToRun<'a, T, P: Plan, I> {
     input: I,
 }
 
+/// Does what [`plan_in_bytes`] does, for the instances of this build. A user's crate has no code of it, since it is not generic.
+fn plan_of(len: usize, size: usize, row_width: usize, ranges: Option<usize>) -> (usize, ReversalPlan) {
+    plan_in_bytes::<instances::Sizes>(len, size, row_width, ranges)
+}
+
 /// Cuts [`transpose::transpose`](crate::transpose::transpose) into at most `parts` parts, 0 for 1.
 ///
 /// The longer side is cut, at multiples of 16 rows or columns. With the feature `checked` the columns are cut. A list that
@@ -167,7 +172,7 @@ pub(super) fn cut<F>(vals: &mut [F], row_width: usize, ranges: Option<usize>) ->
     if !fits_rows(len, row_width) {
         crate::refuse_rows(len, row_width);
     }
-    let (input, plan) = plan_in_bytes::<instances::Sizes>(len, size_of::<F>(), row_width, ranges);
+    let (input, plan) = plan_of(len, size_of::<F>(), row_width, ranges);
     let (items, left) = (SliceItems::in_shares(vals, len), PartsLeft::of(plan));
     ReversalParts(PartsToRun { items, left, input })
 }
