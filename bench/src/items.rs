@@ -3,39 +3,37 @@
 use std::hint::black_box;
 
 use crate::cases::{Case, Work};
-use crate::measure::{Runner, Task};
 #[cfg(library)]
-use over_library::{reverse, reverse_rows, transpose};
+use crate::library::{reverse, reverse_rows, transpose};
+use crate::measure::{Runner, Task};
 #[cfg(parallel)]
 use overlay::{
     proved::reverse_slice_row_index_bits as reverse_rows, reverse_slice_index_bits as reverse, transpose::transpose,
 };
 
-/// The calls of the static library. Their conditions hold for each case.
-#[cfg(library)]
-mod over_library {
-    use crate::library;
+/// The sizes of an item in bytes, each with a type of this size.
+macro_rules! sizes {
+    ($($size:literal $item:ty,)*) => {
+        pub const SIZES: &[usize] = &[$($size),*];
 
-    pub fn reverse<T: super::Item>(vals: &mut [T]) {
-        assert!(library::reverse(vals));
-    }
-
-    pub fn reverse_rows<T: super::Item>(vals: &mut [T], row_width: usize) {
-        assert!(library::reverse_rows(vals, row_width));
-    }
-
-    pub fn transpose<T: super::Item>(input: &[T], output: &mut [T], width: usize, height: usize) {
-        assert!(library::transpose(input, output, width, height));
-    }
+        fn runner_of(case: &Case) -> Runner {
+            match case.item_size {
+                $($size => runner::<$item>(case),)*
+                size => unreachable!("there are no items of {size} bytes"),
+            }
+        }
+    };
 }
 
-/// The sizes of an item in bytes.
 #[cfg(few)]
-pub const SIZES: &[usize] = &[1, 4, 8, 16, 32];
-#[cfg(all(library, not(few)))]
-pub const SIZES: &[usize] = &[1, 2, 4, 8, 12, 16, 20, 24, 32, 40, 48, 64];
-#[cfg(not(any(library, few)))]
-pub const SIZES: &[usize] = &[1, 2, 3, 4, 8, 12, 16, 20, 24, 32, 40, 48, 64];
+sizes! { 1 u8, 4 u32, 8 u64, 16 [u64; 2], 32 [u64; 4], }
+
+// The library has no items of 3 bytes.
+#[cfg(not(few))]
+sizes! {
+    1 u8, 2 u16, 3 [u8; 3], 4 u32, 8 u64, 12 [u32; 3], 16 [u64; 2], 20 [u32; 5], 24 [u64; 3], 32 [u64; 4], 40 [u64; 5], 48 [u64; 6],
+    64 [u64; 8],
+}
 
 pub trait Item: Copy + PartialEq + Send + Sync + 'static {
     fn numbered(i: usize) -> Self;
@@ -99,34 +97,7 @@ impl Task for Case {
     }
 
     fn prepare(&self) -> Runner {
-        match self.item_size {
-            1 => runner::<u8>(self),
-            4 => runner::<u32>(self),
-            8 => runner::<u64>(self),
-            16 => runner::<[u64; 2]>(self),
-            32 => runner::<[u64; 4]>(self),
-            #[cfg(not(few))]
-            size => other_runner(size, self),
-            #[cfg(few)]
-            size => unreachable!("there are no items of {size} bytes"),
-        }
-    }
-}
-
-/// The runner for items of the sizes that a build for few sizes does not have.
-#[cfg(not(few))]
-fn other_runner(size: usize, case: &Case) -> Runner {
-    match size {
-        2 => runner::<u16>(case),
-        #[cfg(not(library))]
-        3 => runner::<[u8; 3]>(case),
-        12 => runner::<[u32; 3]>(case),
-        20 => runner::<[u32; 5]>(case),
-        24 => runner::<[u64; 3]>(case),
-        40 => runner::<[u64; 5]>(case),
-        48 => runner::<[u64; 6]>(case),
-        64 => runner::<[u64; 8]>(case),
-        size => unreachable!("there are no items of {size} bytes"),
+        runner_of(self)
     }
 }
 
@@ -157,42 +128,23 @@ impl<T: Item> Lists<T> {
 
     /// Makes the contender's call `times` times, each time on the result of the call before.
     fn run(&mut self, contender: Contender, times: u32) {
-        let (from, to, row_width) = (self.from.as_slice(), self.to.as_mut_slice(), self.case.row_width());
-        /// The call of the case, which is one of these three.
-        macro_rules! call_of {
-            ($reverse:expr, $reverse_rows:expr, $transpose:expr $(,)?) => {
-                match self.case.work {
-                    Work::Reverse { .. } => repeat(times, to, (), |to, ()| $reverse(to)),
-                    Work::Rows { .. } => repeat(times, to, row_width, $reverse_rows),
-                    Work::Transpose { width, height } => {
-                        repeat(times, to, (from, width, height), |to, (from, width, height)| {
-                            $transpose(from, to, width, height)
-                        })
-                    }
-                }
-            };
-        }
-        /// The call of the case in parts, one after the other, by the package with this name.
-        macro_rules! parts_of {
-            ($package:ident, $parts:ident) => {
-                call_of!(
-                    |to| $package::parts::reversal(to, $parts).for_each(|part| part.run()),
-                    |to, width| $package::parts::row_reversal(to, width, $parts).for_each(|part| part.run()),
-                    |from, to, width, height| {
-                        $package::parts::transpose(from, to, width, height, $parts).for_each(|part| part.run())
-                    },
-                )
-            };
-        }
-        /// The call of the case by the package with this name, in parts if there is a number of them.
+        /// The call of the case by the package with this name, in parts, one after the other, if there is a number of them.
         macro_rules! call_by {
             ($package:ident, $parts:expr) => {
                 match $parts {
-                    Some(parts) => parts_of!($package, parts),
-                    None => call_of!(
-                        $package::reverse_slice_index_bits,
+                    Some(parts) => self.repeat(
+                        times,
+                        |to, ()| $package::parts::reversal(to, parts).for_each(|part| part.run()),
+                        |to, width| $package::parts::row_reversal(to, width, parts).for_each(|part| part.run()),
+                        |to, (from, width, height)| {
+                            $package::parts::transpose(from, to, width, height, parts).for_each(|part| part.run())
+                        },
+                    ),
+                    None => self.repeat(
+                        times,
+                        |to, ()| $package::reverse_slice_index_bits(to),
                         $package::reverse_slice_row_index_bits,
-                        $package::transpose::transpose,
+                        |to, (from, width, height)| $package::transpose::transpose(from, to, width, height),
                     ),
                 }
             };
@@ -201,7 +153,12 @@ impl<T: Item> Lists<T> {
         // inline short calls any more.
         match contender {
             #[cfg(any(library, parallel))]
-            Contender::Proved => call_of!(reverse, reverse_rows, transpose),
+            Contender::Proved => self.repeat(
+                times,
+                |to, ()| reverse(to),
+                reverse_rows,
+                |to, (from, width, height)| transpose(from, to, width, height),
+            ),
             #[allow(unreachable_patterns, reason = "the arm above may have the first")]
             Contender::Proved | Contender::Call => {
                 call_by!(
@@ -210,16 +167,33 @@ impl<T: Item> Lists<T> {
                 )
             }
             #[cfg(original)]
-            Contender::Original => call_of!(
-                p3_util::reverse_slice_index_bits,
+            Contender::Original => self.repeat(
+                times,
+                |to, ()| p3_util::reverse_slice_index_bits(to),
                 |_, _| unreachable!("the original has no call for rows"),
-                p3_util::transpose::transpose,
+                |to, (from, width, height)| p3_util::transpose::transpose(from, to, width, height),
             ),
             #[cfg(before)]
             Contender::Before => call_by!(p3_util_before, self.case.parts),
-            Contender::Copy => repeat(times, to, from, copy),
+            Contender::Copy => repeat(times, &mut self.to, self.from.as_slice(), copy),
             #[cfg(not(all(original, before)))]
             _ => unreachable!("the benchmark was built without this contender"),
+        }
+    }
+
+    /// Makes the call of the case `times` times. It is one of these three.
+    fn repeat<'a>(
+        &'a mut self,
+        times: u32,
+        reverse: impl Fn(&mut [T], ()),
+        reverse_rows: impl Fn(&mut [T], usize),
+        transpose: impl Fn(&mut [T], (&'a [T], usize, usize)),
+    ) {
+        let to = self.to.as_mut_slice();
+        match self.case.work {
+            Work::Reverse { .. } => repeat(times, to, (), reverse),
+            Work::Rows { .. } => repeat(times, to, self.case.row_width(), reverse_rows),
+            Work::Transpose { width, height } => repeat(times, to, (self.from.as_slice(), width, height), transpose),
         }
     }
 
