@@ -5,7 +5,7 @@ use std::hint::black_box;
 use crate::cases::{Case, Work};
 #[cfg(library)]
 use crate::library::{reverse, reverse_rows, transpose};
-use crate::measure::{Runner, Task};
+use crate::measure::{Contender, Runner, Task};
 #[cfg(parallel)]
 use overlay::{
     proved::reverse_slice_row_index_bits as reverse_rows, reverse_slice_index_bits as reverse, transpose::transpose,
@@ -14,12 +14,10 @@ use overlay::{
 /// The sizes of an item in bytes, each with a type of this size.
 macro_rules! sizes {
     ($($size:literal $item:ty,)*) => {
-        pub const SIZES: &[usize] = &[$($size),*];
-
         fn runner_of(case: &Case) -> Runner {
             match case.item_size {
                 $($size => runner::<$item>(case),)*
-                size => unreachable!("there are no items of {size} bytes"),
+                size => panic!("no items of {size} bytes are measured"),
             }
         }
     };
@@ -59,41 +57,29 @@ impl<T: Item, const N: usize> Item for [T; N] {
     }
 }
 
-/// Who makes a call.
-#[derive(Clone, Copy, PartialEq, Eq)]
-pub enum Contender {
-    /// The package, the overlay on all threads, or the static library.
-    Proved,
-    /// `p3-util` 0.8.0.
-    Original,
-    /// The package's whole call on one thread, if parts or several threads are measured.
-    Call,
-    /// The package of another checkout.
-    Before,
-    /// A copy of the same bytes.
-    Copy,
-}
-
-/// The contenders for a case, which take turns. The first one is measured, and the last one is the copy. The original has
-/// no call for rows.
-pub fn contenders(case: &Case) -> Vec<Contender> {
-    let rows = matches!(case.work, Work::Rows { .. });
-    let is_there = [
-        (Contender::Proved, true),
-        (Contender::Original, cfg!(original) && !rows),
-        (Contender::Call, cfg!(parallel) || case.parts.is_some()),
-        (Contender::Before, cfg!(before)),
-        (Contender::Copy, true),
-    ];
-    is_there
-        .into_iter()
-        .filter_map(|(contender, is)| is.then_some(contender))
-        .collect()
-}
-
 impl Task for Case {
-    fn contenders(&self) -> usize {
-        contenders(self).len()
+    fn name(&self) -> &str {
+        &self.name
+    }
+
+    fn units(&self) -> usize {
+        self.units()
+    }
+
+    /// The contenders, which take turns. The last one is the copy. The original has no call for rows.
+    fn contenders(&self) -> Vec<Contender> {
+        let rows = matches!(self.work, Work::Rows { .. });
+        let is_there = [
+            (Contender::Proved, true),
+            (Contender::Original, cfg!(original) && !rows),
+            (Contender::Call, cfg!(parallel) || self.parts.is_some()),
+            (Contender::Before, cfg!(before)),
+            (Contender::Copy, true),
+        ];
+        is_there
+            .into_iter()
+            .filter_map(|(contender, is)| is.then_some(contender))
+            .collect()
     }
 
     fn prepare(&self) -> Runner {
@@ -102,7 +88,7 @@ impl Task for Case {
 }
 
 fn runner<T: Item>(case: &Case) -> Runner {
-    let contenders = contenders(case);
+    let contenders = case.contenders();
     let mut lists = Lists::<T>::new(case);
     let wanted: Vec<T> = (0..lists.from.len()).map(|i| lists.from[case.source(i)]).collect();
     contenders.iter().for_each(|&contender| lists.check(contender, &wanted));
@@ -120,7 +106,7 @@ impl<T: Item> Lists<T> {
     fn new(case: &Case) -> Self {
         let from: Vec<T> = (0..case.items()).map(T::numbered).collect();
         Lists {
-            case: *case,
+            case: case.clone(),
             to: from.clone(),
             from,
         }
@@ -206,12 +192,7 @@ impl<T: Item> Lists<T> {
         } else {
             wanted
         };
-        assert!(
-            self.to == wanted,
-            "wrong: {} of {}",
-            self.case.work.call(),
-            self.case.work.shape()
-        );
+        assert!(self.to == wanted, "wrong: {}", self.case.name);
     }
 }
 

@@ -1,63 +1,47 @@
-//! Measures the proved calls, and compares them with the original's if it is linked. The calls on slices are also
-//! compared with a copy of the same bytes.
+//! Measures the proved calls, and the original's if it is linked. The calls on slices are also compared with a copy of the same
+//! bytes. Its arguments are what `runs.py` makes of the options of `bench/run`:
+//!
+//! - `time RUNS` or `count CALLS`: the least number of runs of each call whose time is taken, or how many calls are made while
+//!   another program counts the instructions, such as `1,11` for one and then eleven
+//! - the number of parts of each call, or 0 for whole calls
+//! - the calls: `words`, `iterators`, or calls on slices, such as `transpose 4 300x60`
+//!
+//! For each call and each contender it prints a line with the name of the call, the number of its items, the contender and the
+//! nanoseconds. If instructions are counted, there are no nanoseconds, and a line `counted` follows when the calls have been made.
 
 mod cases;
-mod counts;
 mod items;
 mod iterators;
 #[cfg(library)]
 mod library;
 mod measure;
-mod options;
-mod table;
 mod timed;
 mod timing;
 mod words;
 
-use std::process::ExitCode;
+use cases::Case;
+use measure::{Mode, measure};
 
-use measure::measured;
-use options::Options;
-use table::Row;
-
-fn main() -> ExitCode {
-    let options = match Options::from_words(std::env::args().skip(1)) {
-        Ok(options) => options,
-        Err(fault) => {
-            eprintln!("{fault}\nbench/run --help lists the options");
-            return ExitCode::from(2);
-        }
+fn main() -> Result<(), String> {
+    let arguments: Vec<String> = std::env::args().skip(1).collect();
+    let [mode, numbers, parts, calls @ ..] = arguments.as_slice() else {
+        return Err("bench/run runs this program".into());
     };
-    match run(&options) {
-        Ok(()) => ExitCode::SUCCESS,
-        Err(fault) => {
-            eprintln!("{fault}");
-            ExitCode::FAILURE
+    let mode = match mode.as_str() {
+        "time" => Mode::Time(number(numbers)?),
+        _ => Mode::Count(numbers.split(',').map(number).collect::<Result<_, _>>()?),
+    };
+    let parts = Some(number(parts)?).filter(|parts| *parts > 0);
+    for call in calls {
+        match call.as_str() {
+            "words" => words::WORDS.iter().for_each(|task| measure(task, &mode)),
+            "iterators" => iterators::ITERATED.iter().for_each(|task| measure(task, &mode)),
+            _ => measure(&Case::named(call, parts).ok_or(format!("unknown call {call}"))?, &mode),
         }
     }
+    Ok(())
 }
 
-fn run(options: &Options) -> Result<(), String> {
-    if options.words || options.iterators {
-        return if options.words {
-            timed::run(&words::WORDS, "a call", options)
-        } else {
-            timed::run(&iterators::ITERATED, "an item", options)
-        };
-    }
-    let cases = cases::chosen(options);
-    let Some(took) = measured(&cases, options)? else {
-        return Ok(());
-    };
-    let rows: Vec<Row> = cases
-        .iter()
-        .zip(&took)
-        .map(|(case, took)| Row::new(case, took))
-        .collect();
-    print!(
-        "{}{}",
-        table::long(&rows, options.unit()),
-        table::summaries(&rows, &options.items)
-    );
-    Ok(())
+fn number(text: &str) -> Result<usize, String> {
+    text.parse().map_err(|_| format!("{text} is no number"))
 }

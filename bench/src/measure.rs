@@ -1,30 +1,73 @@
-//! Measures tasks, which are calls on slices or calls on integers.
+//! Measures tasks, which are calls on slices, on integers, on maps or on iterators.
 
-use crate::options::{Mode, Options};
-use crate::{counts, timing};
+use crate::timing;
 
-/// Something that each of several contenders can do. The first contender is the proved code.
+/// Something that each of several contenders can do.
 pub trait Task {
-    fn contenders(&self) -> usize;
+    fn name(&self) -> &str;
+
+    /// How many items or rows it moves, or how many calls it makes.
+    fn units(&self) -> usize;
+
+    /// Those who can do it. The proved code is the first.
+    fn contenders(&self) -> Vec<Contender>;
 
     /// Prepares the task's data, and checks that all contenders compute the same result.
     fn prepare(&self) -> Runner;
 }
 
+/// Who makes a call.
+#[derive(Clone, Copy, Debug, PartialEq, Eq)]
+pub enum Contender {
+    /// The package, the overlay on all threads, or the static library.
+    Proved,
+    /// `p3-util` 0.8.0.
+    Original,
+    /// The package's whole call on one thread, if parts or several threads are measured.
+    Call,
+    /// The package of another checkout.
+    Before,
+    /// A copy of the same bytes.
+    Copy,
+}
+
 /// Lets the contender with this number, counted from 0, do its task that many times.
 pub type Runner = Box<dyn FnMut(usize, u32)>;
 
-/// What each contender needs for each task: nanoseconds or instructions. `None` if another program counts the
-/// instructions.
-pub fn measured<T: Task>(tasks: &[T], options: &Options) -> Result<Option<Vec<Vec<f64>>>, String> {
-    let time = |task: &T| timing::least(task.contenders(), options.runs, &mut *task.prepare());
-    let count = |task: &T, calls| counts::count(task.contenders(), calls, &mut *task.prepare());
-    match &options.mode {
-        Mode::Time => Ok(Some(tasks.iter().map(time).collect())),
-        Mode::Count(calls) => {
-            tasks.iter().for_each(|task| count(task, calls));
-            Ok(None)
+pub enum Mode {
+    /// Takes the time of at least so many runs.
+    Time(usize),
+    /// Lets each contender do its task so many times while another program counts: callgrind, or the emulator's plugin. The
+    /// plugin counts from line to line.
+    Count(Vec<usize>),
+}
+
+/// Measures a task and prints a line for each contender.
+pub fn measure(task: &impl Task, mode: &Mode) {
+    let (contenders, mut runner) = (task.contenders(), task.prepare());
+    let line = |contender: Contender| format!("{}\t{}\t{contender:?}", task.name(), task.units());
+    match mode {
+        Mode::Time(runs) => {
+            let took = timing::least(contenders.len(), *runs, &mut *runner);
+            for (&contender, took) in contenders.iter().zip(took) {
+                println!("{}\t{took}", line(contender));
+            }
         }
-        Mode::Counted(file) => counts::read(tasks.iter().map(T::contenders), file).map(Some),
+        Mode::Count(calls) => {
+            for (number, &contender) in contenders.iter().enumerate() {
+                println!("{}", line(contender));
+                for &times in calls {
+                    bench_counted(&mut || runner(number, times as u32));
+                    println!("counted");
+                }
+            }
+        }
     }
+}
+
+/// callgrind counts only inside this function.
+#[unsafe(no_mangle)]
+#[inline(never)]
+fn bench_counted(work: &mut dyn FnMut()) {
+    work();
 }

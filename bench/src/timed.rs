@@ -2,8 +2,7 @@
 
 use std::hint::black_box;
 
-use crate::measure::{Runner, Task, measured};
-use crate::options::Options;
+use crate::measure::{Contender, Runner, Task};
 
 /// Makes a call on data that it owns, and returns a number that depends on the results.
 pub type Pass = Box<dyn Fn() -> u64>;
@@ -40,8 +39,16 @@ macro_rules! timed {
 pub(crate) use timed;
 
 impl Task for Timed {
-    fn contenders(&self) -> usize {
-        self.passes.len()
+    fn name(&self) -> &str {
+        self.name
+    }
+
+    fn units(&self) -> usize {
+        self.items as usize
+    }
+
+    fn contenders(&self) -> Vec<Contender> {
+        [Contender::Proved, Contender::Original][..self.passes.len()].into()
     }
 
     fn prepare(&self) -> Runner {
@@ -54,20 +61,4 @@ impl Task for Timed {
         assert!(passes.iter().all(|pass| pass() == result), "{}: not equal", self.name);
         Box::new(move |contender, times| (0..times).for_each(|_| _ = black_box(passes[contender]())))
     }
-}
-
-/// Measures all calls and prints a line for each.
-pub fn run(calls: &[Timed], what: &str, options: &Options) -> Result<(), String> {
-    let Some(took) = measured(calls, options)? else {
-        return Ok(());
-    };
-    println!("| call | {} {what} | to the original |\n|---|---|---|", options.unit());
-    for (call, took) in calls.iter().zip(&took) {
-        let each = took[0] / call.items as f64;
-        let ratio = took
-            .get(1)
-            .map_or(String::new(), |original| format!("{:.2}", took[0] / original));
-        println!("| {} | {each:.2} | {ratio} |", call.name);
-    }
-    Ok(())
 }
