@@ -141,8 +141,8 @@ def public_functions():
     """The public functions of the libraries and the public methods of their types: the path, the type or None, and the
     function. Those of laws.rt say what holds, and do nothing."""
     for path in (path for path in sources if re.match(r"crates/p3_util(_kernels)?/", path) and not path.endswith("/laws.rt")):
-        for outer in declarations(read_source(path), 0):
-            inner = declarations(outer.body, 4) if outer.kind == "impl" and " for " not in outer.head else []
+        for outer in declarations(read_source(path)):
+            inner = declarations(outer.body) if outer.kind == "impl" and " for " not in outer.head else []
             yield from ((path, outer.name(), found) for found in inner if found.kind == "fn" and found.seen_by == "pub")
             if outer.kind == "fn" and outer.seen_by == "pub":
                 yield path, None, outer

@@ -73,7 +73,7 @@ def header(text):
     """The text of the header with the prototypes of all exports. Those of one stem are together, in the order of the sizes."""
     prototypes = {}
     for path in sorted(glob.glob("crates/p3_util_c/src/*.rt")):
-        for found in declarations(read(path), 0):
+        for found in declarations(read(path)):
             if found.seen_by == "pub" and found.kind == "fn":
                 prototypes.setdefault(stem(found.name()), []).append(prototype(found.head))
 

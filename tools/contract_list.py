@@ -59,7 +59,7 @@ def function(indent, owner, declared, hidden=""):
 
 def members(outer):
     """What a trait or an implementation of a trait says, without the proofs of its laws."""
-    for inner in declarations(outer.body, 4):
+    for inner in declarations(outer.body):
         proves = outer.kind == "impl" and re.match(r"ghost (laws|full|few|fits|may_both|same_(items|steps|tiles?)|\w+_(refl|trans)) =", inner.head)
         if inner.kind == "fn" and (inner.clauses or outer.kind == "trait"):
             yield from function(4, "", inner)
@@ -69,9 +69,9 @@ def members(outer):
 
 def contracts(text, seen_by=("pub",), hidden=""):
     """The contracts of a source that these see. Also all its structs and enums, since a definition may use any of them."""
-    for outer in declarations(text, 0):
+    for outer in declarations(text):
         if outer.kind == "impl" and " for " not in outer.head:
-            for inner in declarations(outer.body, 4):
+            for inner in declarations(outer.body):
                 if inner.kind == "fn" and inner.seen_by in seen_by:
                     yield from function(2, f"{outer.name()}::", inner, hidden)
         elif outer.kind == "impl":

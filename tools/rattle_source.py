@@ -89,6 +89,10 @@ class Source:
     def texts(self, start, end):
         return [self.text(at) for at in range(start, end)]
 
+    def between(self, start, end):
+        """The text of these tokens, as it stands in the source."""
+        return "".join(token.gap + token.text for token in self.tokens[start:end])
+
     def next(self, text, at):
         """The index of the next token `text` after `at`."""
         place = next((i for i in range(at, len(self.tokens)) if self.text(i) == text), None)
@@ -104,10 +108,10 @@ class Source:
         return "impl" in head and any(a == "for" and b != "<" for a, b in zip(head, head[1:]))
 
 
-# What comes before the name of a function, and where its head ends.
-FUNCTION = r'(?:pub(?:\(\w+\))? )?(?:const )?(?:extern "C" )?fn '
-HEAD_ENDS = re.compile(r"\n\s*(?:requires|ensures)\b|\{|;$", re.M)
-CLAUSE = re.compile(r"\s*(requires|ensures)(\*?) ?(\w*) \{")
+# What stands before the kind of a declaration, and where its head ends.
+SEEN_BY = r'(?:(pub(?:\(\w+\))?) )?(?:const (?=fn)|extern "C" )?'
+KIND = re.compile(SEEN_BY + r"(fn|const|struct|enum|trait|type|impl|ghost(?! use))\b")
+HEAD_ENDS = {"requires", "ensures", "{", ";", ""}
 
 
 @dataclass
@@ -146,36 +150,32 @@ def blank(text):
     return re.sub(r"\S", " ", text)
 
 
-def closed(text, opened):
-    """The text between the brace at `opened` and the one that closes it, and the index after that."""
-    depth = 1
-    for at in range(opened + 1, len(text)):
-        depth += {"{": 1, "}": -1}.get(text[at], 0)
-        if depth == 0:
-            return text[opened + 1:at], at + 1
-    raise Unknown(f"a brace without its partner: {text[opened:opened + 40]}")
-
-
-def declarations(text, indent):
-    """Each declaration of the text at this indent."""
-    kinds = rf'^ {{{indent}}}(?:(pub(?:\(\w+\))?) )?(?:const |extern "C" )?(fn|const|struct|enum|trait|type|impl|ghost(?! use))\b'
-    for start in re.finditer(kinds, text, re.M):
-        end = HEAD_ENDS.search(text, start.end()).start()
-        head, clauses = " ".join(text[start.start(2):end].split()), []
-        while start[2] == "fn" and (clause := CLAUSE.match(text, end)):
-            said, end = closed(text, clause.end() - 1)
-            clauses.append((f"{clause[1]}{clause[2]} {clause[3]}".rstrip(), said))
-        body = re.compile(r"\s*\{").match(text, end)
-        yield Declaration(start[1] or "", start[2], head, clauses, closed(text, body.end() - 1)[0] if body else "")
+def declarations(text):
+    """Each declaration of the text. Those in its braces are in its body."""
+    source, at = Source(text, "a declaration"), 0
+    while at < len(source.tokens):
+        start = at
+        while source.text(at) not in HEAD_ENDS:
+            at = source.partner.get(at, at) + 1
+        head, clauses, body = " ".join(source.between(start, at).split()), [], ""
+        while source.text(at) in ("requires", "ensures"):
+            brace = source.next("{", at)
+            clauses.append((" ".join(source.texts(at, brace)).replace(" *", "*"), source.between(brace + 1, source.partner[brace])))
+            at = source.partner[brace] + 1
+        if source.text(at) == "{":
+            body, at = source.between(at + 1, source.partner[at]), source.partner[at]
+        at += 1
+        if kind := KIND.match(head):
+            yield Declaration(kind[1] or "", kind[2], head[kind.start(2):], clauses, body)
 
 
 def functions(text):
     """Each function of the text, with the name of the type or trait that it belongs to. The name may be empty."""
-    for outer in declarations(text, 0):
+    for outer in declarations(text):
         if outer.kind == "fn":
             yield "", outer
         elif outer.kind in ("impl", "trait"):
-            yield from ((outer.name(), inner) for inner in declarations(outer.body, 4) if inner.kind == "fn")
+            yield from ((outer.name(), inner) for inner in declarations(outer.body) if inner.kind == "fn")
 
 
 def statements(text, named=None, indent=""):
@@ -198,4 +198,4 @@ def function_at(text, number):
     lines = text.split("\n")
     while re.match(" *#\\[", lines[number - 1]):
         number += 1
-    return re.findall(rf"^ *{FUNCTION}(\w+)", "\n".join(lines[:number]), re.M)[-1]
+    return re.findall(rf"^ *{SEEN_BY}fn (\w+)", "\n".join(lines[:number]), re.M)[-1][-1]
