@@ -179,8 +179,7 @@ def by_valgrind(path, parts, names, _):
 def by_emulator(path, parts, names, _):
     """The number of a call is the count of eleven calls minus the count of one, divided by ten."""
     with tempfile.TemporaryDirectory() as folder:
-        output("rustc", "--edition=2024", "-Copt-level=3", "--crate-type=cdylib", "-o", f"{folder}/plugin.so",
-               HERE / "qemu_plugin.rs")
+        output("cc", "-O2", "-shared", "-fPIC", "-o", f"{folder}/plugin.so", HERE / "qemu_plugin.c")
         printed = output("qemu-aarch64", "-plugin", f"{folder}/plugin.so", "-d", "plugin", "-D", f"{folder}/counts", path, "count", "1,11", parts, *names)
         executed = [int(line) for line in pathlib.Path(folder, "counts").read_text().splitlines()]
     lines = printed.splitlines()
