@@ -23,30 +23,16 @@ ROW = re.compile(r"^\| ([^|\n]+) \| ([^|\n]+) \| ([^|\n]+) \|(?: ([^|\n]+))? \|$
 READ = re.compile(r"(?:.+, )?([0-9a-f]{8}) \d{4}-\d\d-\d\d ([0-9a-f]{8})")
 # The lines that a checksum leaves out: of a file, those that name others by their own names, and documentation.
 NAMES = re.compile(r"^(?:#\[doc\(inline\)\]\n)?(?:pub(?:\(\w+\))? )?(?:mod \w+|use (?:(?!\bas\b)[^;])+);$", re.M)
-# What begins an item of Rust, or a function of Python.
-ITEM = r"( *)(?:pub(?:\([^)]*\))? )?(?:(?:const|unsafe) )*(?:fn|struct|enum|trait|type|const|def|macro_rules!) {}\b"
+# An item of Rust, or a function of Python, with its attributes and the comment above it. An item of Rust ends in its first line,
+# or with a bracket that is indented as that line is. A function of Python ends before an empty line.
+ITEM = r"""(?mx) ^(?:\ *(?:\#\[|//).*\n)* (\ *)(?:def\ {0}\b(?:.*\n)(?:.+\n)*.+
+    | (?:pub(?:\([^)]*\))?\ )?(?:(?:const|unsafe)\ )*(?:fn|struct|enum|trait|type|const|macro_rules!)\ {0}\b
+      (?:.*[;}}]$ | (?:.*\n)*?\1(?=[)\]}}]).*[;}}]$))"""
 
 
 def git(*words):
     found = subprocess.run(["git", *words], capture_output=True, text=True)
     return found.stdout.strip() if found.returncode == 0 else None
-
-
-def items(text, name):
-    """The text of each item of this name, with its attributes and the comment above it. An item of Rust ends where its brackets
-    are closed, and a function of Python before an empty line and the next one that is not indented."""
-    lines = text.split("\n")
-    for at in (at for at, line in enumerate(lines) if re.match(ITEM.format(re.escape(name)), line)):
-        start, end, depth = at, at, 0
-        while start and re.match(r" *(#\[|//)", lines[start - 1]):
-            start -= 1
-        while end + 1 < len(lines):
-            code = re.sub(r"//.*", "", lines[end])
-            depth += sum(map(code.count, "([{")) - sum(map(code.count, ")]}"))
-            if lines[at].startswith("def ") and not lines[end + 1] or depth == 0 and re.search(r"[;}]\s*$", code):
-                break
-            end += 1
-        yield "\n".join(lines[start:end + 1])
 
 
 def named(cell):
@@ -63,7 +49,7 @@ def text_of(cell):
         paths = [file, *glob.glob(f"rust/src/{file}"), *glob.glob(f"rust/src/slices/{file}")]
         path = next((path for path in paths if glob.glob(path)), None)
         text = open(path, encoding="utf-8").read() if path else ""
-        found = [list(items(text, name)) for name in names]
+        found = [[item[0] for item in re.finditer(ITEM.format(name), text)] for name in names]
         lost += [file] * (not path) + [name for name, here in zip(names, found) if not here]
         texts += [one for here in found for one in here] if names else [NAMES.sub("", text) if file.endswith(".rs") else text]
     return " ".join(re.sub(r"(?m)^ *//[/!].*", "", "\n".join(texts)).split()), lost
