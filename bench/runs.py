@@ -31,14 +31,13 @@ DEFAULTS = {
 ALL = 2 ** 64
 # The calls that are summarized together: the call, how many items or rows it moves, and the shapes. A call may be in several.
 GROUPS = {
-    "reversals of up to 2^13 items": ("reverse", range(2 ** 13 + 1)),
-    "reversals of more items": ("reverse", range(2 ** 14, ALL)),
-    "rows, compared with a copy": ("rows", range(ALL)),
-    "transposes of up to 8x8 items": ("transpose", range(65)),
+    "reversals of 2^2 to 2^13 items": ("reverse", range(2 ** 13 + 1)),
+    "reversals of 2^14 to 2^22 items": ("reverse", range(2 ** 14, ALL)),
+    "transposes of 2x2 to 8x8": ("transpose", range(65)),
     "transposes of 65 to 2^20 items": ("transpose", range(65, 2 ** 20 + 1)),
-    "transposes of up to 2^20 items": ("transpose", range(2 ** 20 + 1)),
     "transposes of more items": ("transpose", range(2 ** 20 + 1, ALL), lambda shape: shape in SHAPES or shape not in WIDE),
     "transposes of wide matrices": ("transpose", range(ALL), WIDE.__contains__),
+    "reversals of rows, compared with a copy": ("rows", range(ALL)),
 }
 GROUPS_ON_THREADS = {
     "reversals of up to 2^16 items": ("reverse", range(2 ** 16 + 1)),
