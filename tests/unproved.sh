@@ -33,14 +33,10 @@ done
 mkdir -p "$copy/crates/p3_util_unproved/src"
 echo "p3_util_unproved: $below serde_json" >>"$copy/crates.txt"
 
-refused=0 last=
-for word in "$@"; do
-    [[ $last != --fail-alloc ]] || refused=$word
-    last=$word
-done
+refused=$(sed -n 's/.*--fail-alloc \([0-9]*\).*/\1/p' <<<"$*")
 # On a machine with nothing else to do, the longest test takes 20 seconds, mostly since `rt try` looks for bad accesses. With
 # other work it takes many times that.
-export RT_ALLOW_C=1 CFLAGS="-DREFUSED=$refused" RT_SECONDS=${RT_SECONDS-600}
+export RT_ALLOW_C=1 CFLAGS="-DREFUSED=${refused:-0}" RT_SECONDS=${RT_SECONDS-600}
 
 # tests_of CRATE FOLDER ROOT FLAG..: runs the tests of a folder, which are modules of the crate. The gate would take a file
 # that ends in .rt for one of the crates that it proves, so they end in .rt.in here.

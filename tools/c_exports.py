@@ -8,6 +8,7 @@ files with what this script writes, because neither a C compiler nor the linker 
 import glob
 import re
 import sys
+import textwrap
 
 sys.dont_write_bytecode = True
 from rattle_source import declarations, read
@@ -56,12 +57,10 @@ def arguments(text):
 def prototype(head):
     """The prototype of an export, in lines of at most 120 characters. The compiler warns if a program drops a `bool`."""
     name, given, returned = re.fullmatch(r"fn (\w+)\(\s*(.*?),?\s*\) -> (\w+)", head).groups()
-    lines = [f"{'P3_UTIL_CHECK ' * (returned == 'bool')}{TYPES[returned]} {name}("]
-    for argument in (", ".join(arguments(given)) or "void").replace(", ", ",|").split("|"):
-        if len(lines[-1]) + len(argument) > 118:
-            lines.append("    ")
-        lines[-1] += argument + " "
-    return "\n".join(line.rstrip() for line in lines) + ");\n"
+    text = f"{'P3_UTIL_CHECK ' * (returned == 'bool')}{TYPES[returned]} {name}({', '.join(arguments(given)) or 'void'});"
+    # Lines end at commas, so all other spaces are another character meanwhile.
+    text = textwrap.fill(re.sub("(?<!,) ", "\xa0", text), 120, subsequent_indent="    ", break_long_words=False)
+    return text.replace("\xa0", " ") + "\n"
 
 
 def stem(name):
