@@ -18,7 +18,7 @@ room=$(mktemp -d)
 trap 'rm -rf "$room"' EXIT
 copy=$room/copy
 
-mkdir -p "$copy/crates/examples/src" "$room/apps"
+mkdir -p "$copy/crates"
 for crate in p3_util p3_util_kernels; do
     mkdir "$copy/crates/$crate"
     cp -r "crates/$crate"/{src,specs,proofs,must-fail} "$copy/crates/$crate/"
@@ -27,20 +27,18 @@ cp HANDLES "$copy/"
 grep -E '^(p3_util|p3_util_kernels):' crates.txt >"$copy/crates.txt"
 echo 'examples: p3_util p3_util_kernels serde_json' >>"$copy/crates.txt"
 
-python3 - docs/CALLING.md "$copy" "$room/apps" <<'PYTHON'
-import os
+python3 - docs/CALLING.md "$copy/crates/examples/src" "$room/apps" <<'PYTHON'
+import pathlib
 import re
 import sys
 
-page, copy, app_folder = sys.argv[1:]
-with open(page, encoding="utf-8") as text:
-    blocks = re.findall(r"^```(\w+)\n(.*?)^```", text.read(), re.M | re.S)
+page, examples, app_folder = map(pathlib.Path, sys.argv[1:])
+blocks = re.findall(r"^```(\w+)\n(.*?)^```", page.read_text(encoding="utf-8"), re.M | re.S)
 
 
 def write(path, text):
-    os.makedirs(os.path.dirname(path), exist_ok=True)
-    with open(path, "w", encoding="utf-8") as file:
-        file.write(text)
+    path.parent.mkdir(parents=True, exist_ok=True)
+    path.write_text(text, encoding="utf-8")
 
 
 names, apps, in_front = [], 0, ""
@@ -50,16 +48,16 @@ for (kind, block), (behind, _) in zip(blocks, blocks[1:] + [("", "")]):
         if not head or not re.search(r"^(ghost )?use ", in_front, re.M):
             raise SystemExit(f"FAILED  {page}: a block of antt says no file, or has no block of Rust in front:\n{block}")
         apps += 1
-        write(f"{app_folder}/{apps}/src/lib.rt", f"//! An example of {page}.\n#![tactic(auto)]\n\n{in_front}")
-        write(f"{app_folder}/{apps}/proofs/{head.group(1)}", block)
+        write(app_folder / f"{apps}/src/lib.rt", f"//! An example of {page}.\n#![tactic(auto)]\n\n{in_front}")
+        write(app_folder / f"{apps}/proofs/{head[1]}", block)
     elif kind == "rust" and behind != "antt" and re.search(r"^use ", block, re.M):
         names.append("page_" + re.search(r"^pub fn (\w+)", block, re.M).group(1))
-        write(f"{copy}/crates/examples/src/{names[-1]}.rt", f"//! An example of {page}.\n{block}")
+        write(examples / f"{names[-1]}.rt", f"//! An example of {page}.\n{block}")
     in_front = block if kind == "rust" else ""
 if not names or not apps:
     raise SystemExit(f"FAILED  there is no example in {page}, or none with a file of proofs/")
 modules = "".join(f"pub mod {name};\n" for name in sorted(names))
-write(f"{copy}/crates/examples/src/lib.rt", f"//! The examples of {page}.\n#![tactic(auto)]\n\n{modules}")
+write(examples / "lib.rt", f"//! The examples of {page}.\n#![tactic(auto)]\n\n{modules}")
 print(f"{len(names)} examples of {page}, and {apps} with a file of proofs/")
 PYTHON
 

@@ -69,17 +69,12 @@ impl Task for Case {
     /// The contenders, which take turns. The last one is the copy. The original has no call for rows.
     fn contenders(&self) -> Vec<Contender> {
         let rows = matches!(self.work, Work::Rows { .. });
-        let is_there = [
-            (Contender::Proved, true),
-            (Contender::Original, cfg!(original) && !rows),
-            (Contender::Call, cfg!(parallel) || self.parts.is_some()),
-            (Contender::Before, cfg!(before)),
-            (Contender::Copy, true),
-        ];
-        is_there
-            .into_iter()
-            .filter_map(|(contender, is)| is.then_some(contender))
-            .collect()
+        let mut found = vec![Contender::Proved];
+        found.extend((cfg!(original) && !rows).then_some(Contender::Original));
+        found.extend((cfg!(parallel) || self.parts.is_some()).then_some(Contender::Call));
+        found.extend(cfg!(before).then_some(Contender::Before));
+        found.push(Contender::Copy);
+        found
     }
 
     fn prepare(&self) -> Runner {
@@ -89,8 +84,10 @@ impl Task for Case {
 
 fn runner<T: Item>(case: &Case) -> Runner {
     let contenders = case.contenders();
-    let mut lists = Lists::<T>::new(case);
-    let wanted: Vec<T> = (0..lists.from.len()).map(|i| lists.from[case.source(i)]).collect();
+    let from: Vec<T> = (0..case.items()).map(T::numbered).collect();
+    let wanted: Vec<T> = (0..from.len()).map(|i| from[case.source(i)]).collect();
+    let (to, case) = (from.clone(), case.clone());
+    let mut lists = Lists { case, from, to };
     contenders.iter().for_each(|&contender| lists.check(contender, &wanted));
     Box::new(move |contender, times| lists.run(contenders[contender], times))
 }
@@ -103,15 +100,6 @@ struct Lists<T> {
 }
 
 impl<T: Item> Lists<T> {
-    fn new(case: &Case) -> Self {
-        let from: Vec<T> = (0..case.items()).map(T::numbered).collect();
-        Lists {
-            case: case.clone(),
-            to: from.clone(),
-            from,
-        }
-    }
-
     /// Makes the contender's call `times` times, each time on the result of the call before.
     fn run(&mut self, contender: Contender, times: u32) {
         /// The call of the case by the package with this name, in parts, one after the other, if there is a number of them.

@@ -55,6 +55,7 @@ fn run(runner: &mut dyn FnMut(usize, u32), contender: usize, repeats: u32) -> Du
 }
 
 #[repr(C)]
+#[derive(Default)]
 struct TimeSpec {
     seconds: i64,
     nanoseconds: i64,
@@ -68,10 +69,7 @@ unsafe extern "C" {
 /// time of a clock.
 fn processor_time() -> Duration {
     const CLOCK: i32 = if cfg!(parallel) { 1 } else { 3 };
-    let mut time = TimeSpec {
-        seconds: 0,
-        nanoseconds: 0,
-    };
+    let mut time = TimeSpec::default();
     // SAFETY: the C library fills the struct, whose layout is that of a `timespec` on 64-bit Linux.
     let status = unsafe { clock_gettime(CLOCK, &mut time) };
     assert_eq!(status, 0, "there is no such clock");
