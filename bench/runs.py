@@ -159,6 +159,13 @@ def worst(group):
     return max(group, key=lambda pair: pair[0])
 
 
+def table(head, rows):
+    """A table without the rows that have no figure."""
+    lines = [head, *(row for row in rows if any(row[1:]))]
+    first, *rest = ("|" + "|".join(f" {cell} " if cell else " " for cell in row) + "|\n" for row in lines)
+    return first + "|" + "---|" * len(head) + "\n" + "".join(rest) if rest else ""
+
+
 # These yield each line of the benchmark that names a call and a contender, and what the call took.
 
 

@@ -5,7 +5,7 @@ import os
 import re
 import subprocess
 
-from rattle_source import declarations, functions
+from rattle_source import functions
 from rattle_source import read as read_source
 
 # Names from std, the original, the kit and the system that pages mention and that no source has.
@@ -141,11 +141,9 @@ def public_functions():
     """The public functions of the libraries and the public methods of their types: the path, the type or None, and the
     function. Those of laws.rt say what holds, and do nothing."""
     for path in (path for path in sources if re.match(r"crates/p3_util(_kernels)?/", path) and not path.endswith("/laws.rt")):
-        for outer in declarations(read_source(path)):
-            inner = declarations(outer.body) if outer.kind == "impl" and " for " not in outer.head else []
-            yield from ((path, outer.name(), found) for found in inner if found.kind == "fn" and found.seen_by == "pub")
-            if outer.kind == "fn" and outer.seen_by == "pub":
-                yield path, None, outer
+        for outer, found in functions_of(path):
+            if found.seen_by == "pub" and (not outer or outer.kind == "impl" and " for " not in outer.head):
+                yield path, outer and outer.name(), found
 
 
 @functools.cache

@@ -170,12 +170,12 @@ def declarations(text):
 
 
 def functions(text):
-    """Each function of the text, with the name of the type or trait that it belongs to. The name may be empty."""
+    """Each function of the text, with the declaration of the type or trait that it belongs to, or None."""
     for outer in declarations(text):
         if outer.kind == "fn":
-            yield "", outer
+            yield None, outer
         elif outer.kind in ("impl", "trait"):
-            yield from ((outer.name(), inner) for inner in declarations(outer.body) if inner.kind == "fn")
+            yield from ((outer, inner) for inner in declarations(outer.body) if inner.kind == "fn")
 
 
 def statements(text, named=None, indent=""):
