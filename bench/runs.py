@@ -110,10 +110,10 @@ def is_asked(call, item, across, down, largest):
 
 
 def output(*command):
-    ran = subprocess.run([*map(str, command)], stdout=subprocess.PIPE, text=True)
-    if ran.returncode:
-        raise SystemExit(f"{command[0]} failed")
-    return ran.stdout
+    try:
+        return subprocess.run([*map(str, command)], stdout=subprocess.PIPE, text=True, check=True).stdout
+    except (OSError, subprocess.CalledProcessError):
+        raise SystemExit(f"{command[0]} failed, or is not installed") from None
 
 
 def rows(words):
