@@ -29,7 +29,8 @@ DEFAULTS = {
     "--aarch64": {"calls": ["reverse", "transpose"], "sizes": [12, 16], "shapes": SHAPES_ON_AARCH64},
 }
 ALL = 2 ** 64
-# The calls that are summarized together: the call, how many items or rows it moves, and the shapes. A call may be in several.
+# The calls that are summarized together: the call, how many items or rows it moves, and the shapes. A call may be in
+# several.
 GROUPS = {
     "reversals of 2^2 to 2^13 items": ("reverse", range(2 ** 13 + 1)),
     "reversals of 2^14 to 2^22 items": ("reverse", range(2 ** 14, ALL)),
@@ -134,9 +135,9 @@ def rows(words):
 
 
 def summaries(rows, on_threads=False):
-    """What the proved call takes compared with the original, or with a copy, for each group of calls. The same for the whole
-    call on one thread and for the package before, if these were measured, and for the proved call compared with them. Each is
-    a pair of contenders, and by the name of each group that has calls the ratios of these, each with its row."""
+    """What the proved call takes compared with the original, or with a copy, for each group of calls. The same for the
+    whole call on one thread and for the package before, if these were measured, and for the proved call compared with them.
+    Each is a pair of contenders, and by the name of each group that has calls the ratios of these, each with its row."""
     base = rows[0].base()
     pairs = [("Proved", base)]
     for other in (other for other in ("Call", "Before") if any(other in row.took for row in rows)):

@@ -23,8 +23,8 @@ ROW = re.compile(r"^\| ([^|\n]+) \| ([^|\n]+) \| ([^|\n]+) \|(?: ([^|\n]+))? \|$
 READ = re.compile(r"(?:.+, )?([0-9a-f]{8}) \d{4}-\d\d-\d\d ([0-9a-f]{8})")
 # The lines that a checksum leaves out: of a file, those that name others by their own names, and documentation.
 NAMES = re.compile(r"^(?:#\[doc\(inline\)\]\n)?(?:pub(?:\(\w+\))? )?(?:mod \w+|use (?:(?!\bas\b)[^;])+);$", re.M)
-# An item of Rust, or a function of Python, with its attributes and the comment above it. An item of Rust ends in its first line,
-# or with a bracket that is indented as that line is. A function of Python ends before an empty line.
+# An item of Rust, or a function of Python, with its attributes and the comment above it. An item of Rust ends in its first
+# line, or with a bracket that is indented as that line is. A function of Python ends before an empty line.
 ITEM = r"""(?mx) ^(?:\ *(?:\#\[|//).*\n)* (\ *)(?:def\ {0}\b(?:.*\n)(?:.+\n)*.+
     | (?:pub(?:\([^)]*\))?\ )?(?:(?:const|unsafe)\ )*(?:fn|struct|enum|trait|type|const|macro_rules!)\ {0}\b
       (?:.*[;}}]$ | (?:.*\n)*?\1(?=[)\]}}]).*[;}}]$))"""

@@ -14,8 +14,8 @@ macro_rules! call {
                     #[link_name = concat!($name, $size)]
                     fn call $types -> bool;
                 }
-                // SAFETY: each pointer and the length after it are those of a slice of items of this size. The slice is exclusive
-                // if the pointer is mutable.
+                // SAFETY: each pointer and the length after it are those of a slice of items of this size. The slice is
+                // exclusive if the pointer is mutable.
                 assert!(unsafe { call $values });
             })*
             _ => unreachable!("the library has no such items"),

@@ -1,13 +1,14 @@
-//! Measures the proved calls, and the original's if it is linked. The calls on slices are also compared with a copy of the same
-//! bytes. Its arguments are what `runs.py` makes of the options of `bench/run`:
+//! Measures the proved calls, and the original's if it is linked. The calls on slices are also compared with a copy of the
+//! same bytes. Its arguments are what `runs.py` makes of the options of `bench/run`:
 //!
-//! - `time RUNS` or `count CALLS`: the least number of runs of each call whose time is taken, or how many calls are made while
-//!   another program counts the instructions, such as `1,11` for one and then eleven
+//! - `time RUNS` or `count CALLS`: the least number of runs of each call whose time is taken, or how many calls are made
+//!   while another program counts the instructions, such as `1,11` for one and then eleven
 //! - the number of parts of each call, or 0 for whole calls
 //! - the calls: `words`, `iterators`, or calls on slices, such as `transpose 4 300x60`
 //!
-//! For each call and each contender it prints a line with the name of the call, the number of its items, the contender and the
-//! nanoseconds. If instructions are counted, there are no nanoseconds, and a line `counted` follows when the calls have been made.
+//! For each call and each contender it prints a line with the name of the call, the number of its items, the contender and
+//! the nanoseconds. If instructions are counted, there are no nanoseconds, and a line `counted` follows when the calls have
+//! been made.
 
 mod cases;
 mod items;
