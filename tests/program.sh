@@ -86,9 +86,7 @@ refusals() {
     out_of_memory 10 "$list" 2 '' $'error: 3 by 2 is not the length 4\n' "$1" transpose 3 2
 }
 
-kit=$(dirname "$(rt doc)")/toolchain/bin
-"$kit/clang" -O1 -fPIC -c "$(dirname "$0")/refuse_growth.c" -o "$room/refuse_growth.o"
-"$kit/ld.lld" -shared "$room/refuse_growth.o" -o "$room/refuse_growth.so"
+"${CC:-cc}" -O1 -shared -fPIC -o "$room/refuse_growth.so" "$(dirname "$0")/refuse_growth.c"
 for program in "$@"; do
     program=$(realpath "$program")
     echo "$program"

@@ -1,16 +1,14 @@
 /* Counts a program's requests for memory, and refuses the one whose number is in REFUSED. When the program ends, it writes
    the number of requests, and the number of blocks that were not freed, to the file descriptor 9.
 
-   It is loaded before the C library, which is glibc, and needs no header. */
+   It is loaded before the C library, which is glibc. */
 
-typedef unsigned long size;
+#include <stdio.h>
+#include <stdlib.h>
 
-extern void *__libc_malloc(size bytes);
-extern void *__libc_realloc(void *old, size bytes);
+extern void *__libc_malloc(size_t bytes);
+extern void *__libc_realloc(void *old, size_t bytes);
 extern void __libc_free(void *block);
-extern char *getenv(const char *name);
-extern int atoi(const char *text);
-extern int dprintf(int file, const char *format, ...);
 
 static int requests, held;
 
@@ -20,14 +18,14 @@ static int is_refused(void)
     return ++requests == (refused ? atoi(refused) : 0);
 }
 
-void *malloc(size bytes)
+void *malloc(size_t bytes)
 {
     void *block = is_refused() ? 0 : __libc_malloc(bytes);
     held += block != 0;
     return block;
 }
 
-void *realloc(void *old, size bytes)
+void *realloc(void *old, size_t bytes)
 {
     void *block = is_refused() ? 0 : __libc_realloc(old, bytes);
     held += !old && block;
