@@ -1,5 +1,6 @@
-//! Callers of the counters, and of the steps of a holder on some places of a list, and a counter
-//! that a caller defines. A holder is a value that gives access to a list only by index.
+//! Callers of the counters, and of the steps of a holder on some places of a list. A holder is a value
+//! that gives access to a list only by index. Two are defined here: `Tally`, which counts puts, and
+//! `Widened`, which keeps items of 32 bits in 64 bits.
 
 ghost use Rattle.std.specs.Prelude.{◌≡◌, ◌+◌, ◌*◌, ◌/◌, ◌%◌, ◌^◌, ◌<◌, length, map, slice_set, swap};
 ghost use Rattle.std.proofs.Common.{rules};

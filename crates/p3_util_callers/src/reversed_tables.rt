@@ -33,7 +33,7 @@ fn reorder_by<T>(table: &mut [T], k: usize)
 
 /// Puts a table into the order of reversed index bits. Then its lower half has the items of even
 /// index, and its upper half those of odd index.
-#[tactic(auto, using(p3_util::proofs::Callers::lower_half, p3_util::proofs::Callers::upper_half))]
+#[tactic(auto, using(p3_util::proofs::Callers::rev_low, p3_util::proofs::Callers::rev_up, p3_util::proofs::Callers::power_in_parts))]
 pub fn even_then_odd<T>(table: &mut [T], k: usize)
     requires few { k < 64 }
     requires len { length table.old ≡ 2 ^ (k + 1) }
