@@ -111,6 +111,8 @@ fn steps<const N: usize>() {
         two.has(|run, k| (1 - run, k));
         SliceItems::new(two.list()).exchange(GAP, 0);
         two.has(|run, k| (run, k));
+        SliceItems::new(two.list()).exchange(GAP, GAP);
+        two.has(|run, k| (run, k));
         let put = SliceSource::new(two.list()).at(GAP);
         SliceItems::new(two.list()).put(0, put);
         two.has(|_, k| (1, k));
