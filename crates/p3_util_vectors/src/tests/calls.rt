@@ -21,7 +21,7 @@ use p3_util_callers::transpose::levels_of;
 use std::process::Abort;
 
 /// A call that reorders a list by exchanges.
-#[derive(Clone, Copy, Debug)]
+#[derive(Clone, Copy)]
 pub(crate) enum Call {
     /// By index bits, on the path that the length selects, with a given counter.
     Reversal,
@@ -121,7 +121,7 @@ pub(crate) fn transpose_slice<T: Copy>(
 }
 
 /// A call that writes the transpose of a matrix or of a region.
-#[derive(Clone, Copy, Debug)]
+#[derive(Clone, Copy)]
 pub(crate) enum Put {
     /// From a slice, with a given counter.
     On,

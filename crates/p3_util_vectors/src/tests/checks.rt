@@ -28,7 +28,7 @@ pub(crate) fn check_places<T: Item>(rt: &impl Abort, list: &[T], wanted: &[(usiz
 }
 
 /// The sides of a matrix.
-#[derive(Clone, Copy, Debug)]
+#[derive(Clone, Copy)]
 pub(crate) struct Shape {
     pub(crate) width: usize,
     pub(crate) height: usize,

@@ -96,24 +96,6 @@ fn kernels_on_a_view(rt: HostRuntime) {
     equal(&rt, &rows, &[[1, 4], [2, 5], [3, 6]]);
 }
 
-/// Writes the transpose of the items of `from` to those of `to`, and returns the number of writes.
-fn between_views<const N: usize, const M: usize>(
-    rt: &impl Abort,
-    from: &[[u64; N]],
-    to: &mut [[u64; M]],
-    width: usize,
-    height: usize,
-) -> u128 {
-    assert!(rt; flat_len(from.len(), N).is_some() && flat_len(to.len(), M).is_some());
-    let mut cells = as_base_slice_mut(to);
-    put_between(
-        rt,
-        &as_base_slice(from),
-        &mut cells,
-        Shape { width, height },
-    )
-}
-
 /// 19 rows of 17 items: the numbers from 0 on.
 fn numbered_rows() -> [[u64; 17]; 19] {
     let mut rows = [[0; 17]; 19];
@@ -130,18 +112,32 @@ fn numbered_rows() -> [[u64; 17]; 19] {
 #[test]
 fn transposes_between_views(rt: HostRuntime) {
     let mut turned = [[0u64; 2]; 3];
-    let writes = between_views(&rt, &[[0, 1, 2], [3, 4, 5]], &mut turned, 3, 2);
+    let mut view = as_base_slice_mut(&mut turned);
+    let shape = Shape {
+        width: 3,
+        height: 2,
+    };
+    let rows = [[0, 1, 2], [3, 4, 5]];
+    let writes = put_between(&rt, &as_base_slice(&rows), &mut view, shape);
     equal(&rt, &writes, &6);
     equal(&rt, &turned, &[[0, 3], [1, 4], [2, 5]]);
     let mut none = [[0u64; 4]; 0];
-    let writes = between_views::<3, 4>(&rt, &[], &mut none, 0, 5);
+    let mut view = as_base_slice_mut(&mut none);
+    let shape = Shape {
+        width: 0,
+        height: 5,
+    };
+    let writes = put_between(&rt, &as_base_slice::<u64, 3>(&[]), &mut view, shape);
     equal(&rt, &writes, &0);
     let mut turned = [[0u64; 19]; 17];
-    equal(
-        &rt,
-        &between_views(&rt, &numbered_rows(), &mut turned, 17, 19),
-        &323,
-    );
+    let mut view = as_base_slice_mut(&mut turned);
+    let shape = Shape {
+        width: 17,
+        height: 19,
+    };
+    let rows = numbered_rows();
+    let writes = put_between(&rt, &as_base_slice(&rows), &mut view, shape);
+    equal(&rt, &writes, &323);
     let [first, second, .., last] = turned;
     equal(&rt, &(first[0], first[1]), &(0, 17));
     equal(&rt, &(second[0], second[1]), &(1, 18));
