@@ -19,7 +19,7 @@ pub(super) use registers::{Items, Vector};
 use crate::kernels::calls::Output;
 use crate::kernels::places::{Block, Cells, Places, Source};
 use crate::kernels::registers::blocks::{
-    LinesOfCells, RunsOfCells, SquaresOfCells, put_block_in_lines, put_block_in_squares, put_singly,
+    LinesOfCells, RunsOfCells, SquaresOfCells, put_in_lines_if_runs, put_in_squares_if_runs,
 };
 use crate::kernels::registers::tiles::{self, RunsOfPlaces};
 use crate::kernels::registers::{Register, Runs, Single, Two};
@@ -262,10 +262,8 @@ impl<T: Copy, D: Register<T>> Cells for SliceItems<'_, T, D> {
     #[cfg_attr(debug_assertions, inline(never))]
     #[cfg_attr(not(debug_assertions), inline(always))]
     fn put_block<R: Source<Item = T>>(&mut self, source: &R, block: Block) {
-        match source.as_slice() {
-            Some(items) => put_block_in_squares(self, &SliceItems::<T, D>::of_source(items), source, block),
-            None => put_singly(self, source, block),
-        }
+        let runs = source.as_slice().map(SliceItems::<T, D>::of_source);
+        put_in_squares_if_runs(self, runs, source, block);
     }
 }
 
@@ -333,10 +331,8 @@ impl<T: Copy, D: Register<T>> Cells for PastCaches<'_, T, D> {
     #[cfg_attr(debug_assertions, inline(never))]
     #[cfg_attr(not(debug_assertions), inline(always))]
     fn put_block<R: Source<Item = T>>(&mut self, source: &R, block: Block) {
-        match source.as_slice() {
-            Some(items) => put_block_in_lines(self, &SliceItems::<T, D>::of_source(items), source, block),
-            None => put_singly(self, source, block),
-        }
+        let runs = source.as_slice().map(SliceItems::<T, D>::of_source);
+        put_in_lines_if_runs(self, runs, source, block);
     }
 }
 
