@@ -4,8 +4,7 @@
 //! It is proved that a kernel whose own precondition holds meets the preconditions of the steps of every holder. So
 //! `holders.rs` and its folder, which have all the unsafe code, check no index. With the feature `checked`, the holders of
 //! `checked.rs` are used instead, which check each one. Proved code chooses how a matrix is put, in `kernels/calls.rs`.
-//! `by_size.rs` chooses the instance of a kernel, or of a part, from those of `by_type.rs` and `part_by_type.rs`. With
-//! `checked` and on 32 bits there is none for each size.
+//! `by_size.rs` has an instance of the kernels for each usual size of an item. With `checked` and on 32 bits there are none.
 //!
 //! On a system of 32 bits, `narrow.rs` has the holders: those of the kernels, which check each index too.
 
@@ -14,7 +13,6 @@ use crate::kernels::transpose::fits_matrix;
 use crate::width::Index;
 use holders::{SliceItems, SliceSource, WholeList};
 
-mod by_type;
 #[cfg_attr(target_pointer_width = "32", path = "slices/narrow.rs")]
 #[cfg_attr(all(feature = "checked", target_pointer_width = "64"), path = "slices/checked.rs")]
 #[cfg_attr(not(feature = "checked"), allow(unsafe_code))]
@@ -24,12 +22,10 @@ mod holders;
 #[cfg(target_pointer_width = "64")]
 mod instances;
 #[cfg(target_pointer_width = "64")]
-mod part_by_type;
-#[cfg(target_pointer_width = "64")]
 pub mod parts;
 
 #[cfg(target_pointer_width = "32")]
-use by_type as instances;
+use crate::kernels::calls as instances;
 
 /// Reverses the order of `vals` by index bits.
 ///
@@ -126,7 +122,7 @@ pub fn transpose<T: Copy + Send + Sync>(input: &[T], output: &mut [T], width: us
         crate::transpose::refuse(input.len(), output.len(), width, height);
     }
     if size_of::<T>() > 0 {
-        instances::transpose(SliceItems::new(output), SliceSource::new(input), cols, rows);
+        instances::transpose_whole(SliceItems::new(output), SliceSource::new(input), cols, rows);
     }
 }
 

@@ -89,7 +89,7 @@ def main():
     for name, text in functions(mir):
         arguments = text.partition(") -> ")[0]
         lines.update(f"{name} has the number {number}" for number in numbers(text))
-        if re.search(r"slices::(parts::PartsToRun|holders::(?!SliceSource)\w+)<|\{closure@", arguments):
+        if re.search(r"kernels::parts::lists::Parts?ToRun<|slices::holders::(?!SliceSource)\w+<|\{closure@", arguments):
             lines.update(f"{name} has the slice {it}" for it in slices(text))
         made = collections.Counter(references(text))
         lines.update(f"{name} makes {it}" + f", {number} of them" * (number > 1) for it, number in made.items())

@@ -1,6 +1,6 @@
 -- Rows of bytes, for `src/bytes.rt`.
-use Rattle.std.proofs.Common.{ℕ, ◌≡◌, ◌∙◌, ◌+◌, ◌*◌, ◌/◌, ◌%◌, ◌^◌, ◌<◌, ◌≤◌, ap, inl, refl, sym, arith}
-use Rattle.std.proofs.Math.Nat.{div-one, le-mul_of_pos_right, mod-one, mod_self, mul-div_cancel_left, mul-mod_left, mul_assoc, mul_comm, mul_right_comm, pos_of_ne-zero, zero-div}
+use Rattle.std.proofs.Common.{ℕ, ◌≡◌, ◌∙◌, ◌*◌, ◌/◌, ◌%◌, ◌^◌, ◌<◌, ap, inl, refl, sym, arith}
+use Rattle.std.proofs.Math.Nat.{div-one, le-mul_of_pos_right, mod-one, mod_self, mul-div_cancel_left, mul-mod_left, mul_assoc, mul_comm, mul_right_comm, pos_of_ne-zero}
 use Rattle.std.proofs.lemmas.Nat.{div-add-mod'}
 use Rattle.p3_util_kernels.specs.Reversal.{FitsRows}
 
@@ -56,3 +56,14 @@ no_rows = (0, inl refl, refl)
 
 pub no_bytes : (all : ℕ) → all ≡ 0 → all / 1 ≡ 0
 no_bytes all none = div-one all ∙ none
+
+-- the rows of a list that is one part, in bytes
+pub whole_rows : (all place width : ℕ) → all / place * place ≡ all → FitsRows (all / place) width → FitsRows all (width * place)
+whole_rows all place width whole (rows, power, e) = (rows, power, sym whole ∙ ap (λ n. n * place) e ∙ mul_right_comm width rows place)
+
+-- and the bytes of a row, which are not more than those of the list
+pub whole_fits : (all place len width : ℕ) → all / place * place ≡ all → len ≡ all / place → FitsRows len width → 0 < len → all < 2 ^ 64 → width * place < 2 ^ 64
+whole_fits all place len width whole places (rows, power, e) some fits =
+    let one : 0 < rows = pos_of_ne-zero (λ none. omega (arith, some, e ∙ ap (λ r. width * r) none)) in
+    let all_is : all ≡ width * place * rows = sym whole ∙ ap (λ n. n * place) (sym places ∙ e) ∙ mul_right_comm width rows place in
+    omega (arith, fits, all_is, le-mul_of_pos_right (width * place) one)

@@ -1,12 +1,14 @@
 //! In places of how many bytes a list is reversed. The package takes most lists as bytes, since it has instances of the kernels
 //! for each usual size of an item, and not for each type.
 
-ghost use Rattle.std.specs.Prelude.{◌≡◌, ℕ, ◌*◌, ◌/◌, ◌%◌, ◌^◌, ◌<◌};
+ghost use Rattle.std.specs.Prelude.{◌≡◌, ℕ, ◌*◌, ◌/◌, ◌%◌, ◌^◌, ◌<◌, IfErr, IfOk};
 ghost use Rattle.p3_util_kernels.specs.Reversal.{FitsRows};
+ghost use Rattle.p3_util_parts.specs.declared.parts.RowPairs.{RowPairs};
+ghost use Rattle.p3_util_parts.specs.declared.parts.reversal.ReversalPlan.TheVariants.{Patches, Whole};
 ghost use Rattle.p3_util_parts.specs.Plans.{IsReversalPlan, width_of};
 
 use crate::choice::LONG_BYTES;
-use p3_util_parts::parts::ReversalPlan;
+use p3_util_parts::parts::{Part, ReversalPlan, RowPairs};
 
 /// The instances that a build has. Only the time depends on them.
 pub(crate) trait Instances {
@@ -66,4 +68,69 @@ pub(crate) fn plan_in_bytes<I: Instances>(
     let row = row_width * size;
     let bytes = bytes_of_place::<I>(size, row);
     (bytes, ReversalPlan::new(all / bytes, row / bytes, ranges))
+}
+
+/// A list of bytes, with the instances of the kernels that a build has for it. What a function returns says what was done.
+pub(crate) trait ByteInstances: Sized {
+    type Done;
+
+    /// The number of bytes.
+    ghost len: { Self → ℕ };
+
+    /// The order of rows of `row` bytes each was reversed by index bits.
+    ghost reversed: { (row : ℕ) → Self → Self.Done → Type 0 };
+
+    /// The pairs of patch `number` were exchanged, in the list of places of `place` bytes each.
+    ghost exchanged: { (place : ℕ) → RowPairs → (number : ℕ) → Self → Self.Done → Type 0 };
+
+    /// Reverses rows of `row` bytes each if there is an instance for places of this size. Otherwise the list is returned.
+    fn reverse_places(self, row: usize) -> Result<Self::Done, Self>
+        requires { FitsRows (len self) row }
+        ensures done { IfOk result (λ done. reversed row self done) }
+        ensures left { IfErr result (λ list. list ≡ self) };
+
+    /// Reverses rows of `row` bytes each as runs of bytes.
+    fn reverse_runs(self, row: usize) -> Self::Done
+        requires { FitsRows (len self) row }
+        ensures { reversed row self result };
+
+    /// Exchanges the pairs of a patch, in the list of places of `place` bytes each.
+    fn exchange(self, place: usize, patch: Part<RowPairs>) -> Self::Done
+        requires some { 0 < place }
+        requires all { len self / place * place ≡ len self }
+        requires plan { IsReversalPlan (len self / place) (Patches patch.plan) }
+        ensures { exchanged place patch.plan patch.number self result };
+}
+
+/// Reverses the order of rows of `row` bytes each by index bits.
+#[inline(always)]
+pub(crate) fn reverse_rows<I: ByteInstances>(list: I, row: usize) -> I::Done
+    requires { FitsRows (I.len list) row }
+    ensures { I.reversed row list result }
+{
+    match list.reverse_places(row) {
+        Ok(done) => done,
+        Err(list) => list.reverse_runs(row),
+    }
+}
+
+/// Makes the exchanges of a part, in the list of places of `place` bytes each.
+#[tactic(auto, using(crate::proofs::RowBytes::whole_fits))]
+#[inline(always)]
+pub(crate) fn reverse_part<I: ByteInstances>(
+    list: I,
+    place: usize,
+    part: Part<ReversalPlan>,
+) -> I::Done
+    requires some { 0 < place }
+    requires all { I.len list / place * place ≡ I.len list }
+    requires plan { IsReversalPlan (I.len list / place) part.plan }
+    requires len_fits { I.len list < 2 ^ 64 }
+    ensures whole { (len width : ℕ) → part.plan ≡ Whole len width → I.reversed (width * place) list result }
+    ensures patch { (pairs : RowPairs) → part.plan ≡ Patches pairs → I.exchanged place pairs part.number list result }
+{
+    match part.patch() {
+        Ok(patch) => list.exchange(place, patch),
+        Err(row_width) => reverse_rows(list, row_width * place),
+    }
 }

@@ -3,9 +3,10 @@
 
 ghost use Rattle.std.specs.Prelude.{◌≡◌, ◌≢◌, ℕ, ◌*◌, ◌^◌, ◌<◌, length, slice_get};
 ghost use Rattle.p3_util_kernels.specs.Columns.{HoldsColumn, IsColumnPut};
+ghost use Rattle.p3_util_kernels.specs.Logarithms.{clog};
 ghost use Rattle.p3_util_kernels.specs.Region.{IsReady, IsRegionTransposed, items_of};
-ghost use Rattle.p3_util_kernels.specs.Reversal.{FitsRows, IsRowReversal};
-ghost use Rattle.p3_util_kernels.specs.SwapCounts.{row_swaps};
+ghost use Rattle.p3_util_kernels.specs.Reversal.{FitsRows, IsReversal, IsReversible, IsRowReversal};
+ghost use Rattle.p3_util_kernels.specs.SwapCounts.{row_swaps, short_swaps};
 ghost use Rattle.p3_util_kernels.specs.Transpose.{IsTranspose};
 
 use crate::choice::{
@@ -14,7 +15,7 @@ use crate::choice::{
 };
 use p3_util_kernels::kernel::{
     Blocks, Columns, InRows, LARGE_MATRIX, Matrix, Order, PutRegion, RowDigits, ShortColumns, UNIT,
-    put_as_block,
+    put_as_block, reverse_short,
 };
 use p3_util_kernels::places::{Cells, Places, Source};
 use p3_util_kernels::transpose::Region;
@@ -106,12 +107,9 @@ pub(crate) fn transpose_whole<M: Output, R: Source<Item = M::Item> + Copy>(
     }
     // Here, and not above, the compiler makes fewer tests for the other choices.
     match M::SIDE {
-        0 | 1 => {}
-        side => {
-            if width == side && height == side {
-                return transpose_block(cells, source, width, height);
-            }
-        }
+        4 if width == 4 && height == 4 => return transpose_block::<4, _, _>(cells, source),
+        8 if width == 8 && height == 8 => return transpose_block::<8, _, _>(cells, source),
+        _ => {}
     }
     if height <= 1 {
         return cells.copy(source);
@@ -167,23 +165,20 @@ fn transpose_tiny_apart<M: Output, R: Source<Item = M::Item> + Copy>(
     transpose_tiny(cells, source, width, height)
 }
 
-/// Transposes a matrix of one block, in the holder's own way.
+/// Transposes a matrix of one block, in the holder's own way. The side is a constant, and with it the distance of its rows.
 #[inline(never)]
-fn transpose_block<M: Output, R: Source<Item = M::Item> + Copy>(
+fn transpose_block<const SIDE: usize, M: Output, R: Source<Item = M::Item> + Copy>(
     cells: M,
     source: R,
-    width: usize,
-    height: usize,
 ) -> M
-    requires some_cols { 0 < width }
-    requires some_rows { 0 < height }
-    requires input_fits { length (R.items source) ≡ width * height }
-    requires output_fits { length (M.items cells) ≡ width * height }
+    requires some { 0 < SIDE }
+    requires input_fits { length (R.items source) ≡ SIDE * SIDE }
+    requires output_fits { length (M.items cells) ≡ SIDE * SIDE }
     requires len_fits { length (R.items source) < 2 ^ 64 }
-    ensures order { IsTranspose width height (R.items source) (M.items result) }
-    ensures holder { M.same_holder (width * height) cells result }
+    ensures order { IsTranspose SIDE SIDE (R.items source) (M.items result) }
+    ensures holder { M.same_holder (SIDE * SIDE) cells result }
 {
-    let matrix = Matrix::new(source, width, height);
+    let matrix = Matrix::new(source, SIDE, SIDE);
     let whole = matrix.whole();
     put_as_block(cells, matrix, whole)
 }
@@ -358,6 +353,16 @@ pub(crate) fn transpose_region<M: Output, R: Source<Item = M::Item> + Copy>(
     } else {
         put_region(cells, matrix, region, true)
     }
+}
+
+/// Reverses the order of items by index bits.
+#[inline(never)]
+pub(crate) fn reverse<M: Places>(items: M) -> M
+    requires { IsReversible (length (M.items items)) }
+    ensures order { IsReversal (M.items items) (M.items result) }
+    ensures holder { M.same_holder (short_swaps (clog (length (M.items items)))) items result }
+{
+    reverse_short(items)
 }
 
 /// Reverses the order of rows of `row_width` items by index bits.

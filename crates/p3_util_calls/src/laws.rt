@@ -20,7 +20,8 @@ use crate::choice::Limits;
 use crate::part::{reverse_part, transpose_part};
 use p3_util_kernels::places::{Cells, Places, Source};
 use p3_util_parts::parts::laws::{ExchangeSteps, PutSteps};
-use p3_util_parts::parts::{Part, PartsLeft, ReversalPlan, TransposePlan};
+use p3_util_parts::parts::numbers::PartsLeft;
+use p3_util_parts::parts::{Part, ReversalPlan, TransposePlan};
 
 /// With the constants of any other holder. A copy puts the items one by one.
 impl<C: Output> Output for PutSteps<C> {

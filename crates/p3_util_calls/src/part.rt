@@ -10,7 +10,7 @@ use p3_util_kernels::places::{Places, Source};
 use p3_util_parts::parts::{Part, ReversalPlan, TransposePlan};
 
 /// Puts the region of a part.
-#[inline(always)]
+#[inline(never)]
 pub(crate) fn transpose_part<M: Output, R: Source<Item = M::Item> + Copy>(
     cells: M,
     source: R,
@@ -28,7 +28,6 @@ pub(crate) fn transpose_part<M: Output, R: Source<Item = M::Item> + Copy>(
 }
 
 /// Makes the exchanges of a part.
-#[inline(always)]
 pub(crate) fn reverse_part<M: Places>(items: M, part: Part<ReversalPlan>) -> M
     requires plan { IsReversalPlan (length (M.items items)) part.plan }
     requires len_fits { length (M.items items) < 2 ^ 64 }

@@ -1,9 +1,13 @@
-//! A holder that meets [`Output`], as a proof that this can be done. No other code uses it, and the package is made without it.
+//! A holder that meets [`Output`], and a list that meets [`ByteInstances`], as a proof that this can be done. No other code
+//! uses them, and the package is made without them.
 
 ghost use Rattle.std.specs.Prelude.{◌≡◌, ℕ, ◌+◌};
+ghost use Rattle.p3_util_calls.specs.declared.witness.Noted.TheVariants.{Exchanged, Reversed};
 
+use crate::bytes::ByteInstances;
 use crate::calls::Output;
 use p3_util_kernels::places::{Cells, Source};
+use p3_util_parts::parts::{Part, RowPairs};
 
 /// Cells that are put one by one, whatever the holder inside counts.
 #[derive(Drop)]
@@ -45,5 +49,41 @@ impl<C: Cells> Output for Singly<C> {
             i += 1;
         }
         copied
+    }
+}
+
+/// A list of bytes that notes what is asked of it, and does nothing.
+#[derive(Drop)]
+struct Asked {
+    len: usize,
+}
+
+/// What is asked of a list, with the bytes of each row or of each place.
+#[derive(Drop)]
+enum Noted {
+    Reversed(usize),
+    /// The number of a patch is the second one.
+    Exchanged(usize, usize),
+}
+
+impl ByteInstances for Asked {
+    type Done = Noted;
+
+    ghost len = { λ list. list.len };
+
+    ghost reversed = { λ row list done. done ≡ Reversed row };
+
+    ghost exchanged = { λ place pairs number list done. done ≡ Exchanged place number };
+
+    fn reverse_places(self, _row: usize) -> Result<Noted, Self> {
+        Err(self)
+    }
+
+    fn reverse_runs(self, row: usize) -> Noted {
+        Noted::Reversed(row)
+    }
+
+    fn exchange(self, place: usize, patch: Part<RowPairs>) -> Noted {
+        Noted::Exchanged(place, patch.number())
     }
 }

@@ -19,14 +19,20 @@ ghost use Rattle.p3_util_kernels.specs.Reversal.{FitsRows};
 mod asked;
 #[doc(hidden)]
 pub mod laws;
-mod numbers;
+#[doc(hidden)]
+pub mod lists;
+#[doc(hidden)]
+pub mod numbers;
 mod reversal;
 mod transpose;
+mod witness;
 
 #[doc(hidden)]
-pub use asked::{one_part_items, ranges_of_side};
+pub use asked::{one_part_items, ranges_if_cut};
 #[doc(hidden)]
-pub use numbers::{Part, PartsLeft, Plan};
+pub use lists::{PartToRun, PartsToRun, Shared};
+#[doc(hidden)]
+pub use numbers::Part;
 use p3_util_kernels::kernel::{RowDigits, TILE, exchange_quadrants, exchange_region, pow2};
 use p3_util_kernels::places::Places;
 use p3_util_kernels::transpose::Region;

@@ -3,7 +3,7 @@
 //! for each usual size of an item, and not for each type.
 
 use crate::kernels::choice::LONG_BYTES;
-use crate::kernels::parts::ReversalPlan;
+use crate::kernels::parts::{Part, ReversalPlan, RowPairs};
 
 /// The instances that a build has. Only the time depends on them.
 pub(crate) trait Instances {
@@ -69,4 +69,82 @@ pub(crate) fn plan_in_bytes<I: Instances>(
     let row = row_width * size;
     let bytes = bytes_of_place::<I>(size, row);
     (bytes, ReversalPlan::new(all / bytes, row / bytes, ranges))
+}
+
+/// A list of bytes, with the instances of the kernels that a build has for it. What a function returns says what was done.
+pub(crate) trait ByteInstances: Sized {
+    type Done;
+
+    /// Reverses rows of `row` bytes each if there is an instance for places of this size. Otherwise the list is returned.
+    ///
+    /// # Contract
+    ///
+    /// ```text
+    /// requires { FitsRows (len self) row }
+    /// ensures done { IfOk result (λ done. reversed row self done) }
+    /// ensures left { IfErr result (λ list. list ≡ self) }
+    /// ```
+    fn reverse_places(self, row: usize) -> Result<Self::Done, Self>;
+
+    /// Reverses rows of `row` bytes each as runs of bytes.
+    ///
+    /// # Contract
+    ///
+    /// ```text
+    /// requires { FitsRows (len self) row }
+    /// ensures { reversed row self result }
+    /// ```
+    fn reverse_runs(self, row: usize) -> Self::Done;
+
+    /// Exchanges the pairs of a patch, in the list of places of `place` bytes each.
+    ///
+    /// # Contract
+    ///
+    /// ```text
+    /// requires some { 0 < place }
+    /// requires all { len self / place * place ≡ len self }
+    /// requires plan { IsReversalPlan (len self / place) (Patches patch.plan) }
+    /// ensures { exchanged place patch.plan patch.number self result }
+    /// ```
+    fn exchange(self, place: usize, patch: Part<RowPairs>) -> Self::Done;
+}
+
+/// Reverses the order of rows of `row` bytes each by index bits.
+///
+/// # Contract
+///
+/// ```text
+/// requires { FitsRows (I.len list) row }
+/// ensures { I.reversed row list result }
+/// ```
+#[inline(always)]
+pub(crate) fn reverse_rows<I: ByteInstances>(list: I, row: usize) -> I::Done {
+    match list.reverse_places(row) {
+        Ok(done) => done,
+        Err(list) => list.reverse_runs(row),
+    }
+}
+
+/// Makes the exchanges of a part, in the list of places of `place` bytes each.
+///
+/// # Contract
+///
+/// ```text
+/// requires some { 0 < place }
+/// requires all { I.len list / place * place ≡ I.len list }
+/// requires plan { IsReversalPlan (I.len list / place) part.plan }
+/// requires len_fits { I.len list < 2 ^ 64 }
+/// ensures whole { (len width : ℕ) → part.plan ≡ Whole len width → I.reversed (width * place) list result }
+/// ensures patch { (pairs : RowPairs) → part.plan ≡ Patches pairs → I.exchanged place pairs part.number list result }
+/// ```
+#[inline(always)]
+pub(crate) fn reverse_part<I: ByteInstances>(
+    list: I,
+    place: usize,
+    part: Part<ReversalPlan>,
+) -> I::Done {
+    match part.patch() {
+        Ok(patch) => list.exchange(place, patch),
+        Err(row_width) => reverse_rows(list, row_width * place),
+    }
 }

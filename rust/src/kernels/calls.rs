@@ -10,7 +10,7 @@ use crate::kernels::choice::{
 };
 use crate::kernels::kernel::{
     Blocks, Columns, InRows, LARGE_MATRIX, Matrix, Order, PutRegion, RowDigits, ShortColumns, UNIT,
-    put_as_block,
+    put_as_block, reverse_short,
 };
 use crate::kernels::places::{Cells, Places, Source};
 use crate::kernels::transpose::Region;
@@ -116,12 +116,9 @@ pub(crate) fn transpose_whole<M: Output, R: Source<Item = M::Item> + Copy>(
     }
     // Here, and not above, the compiler makes fewer tests for the other choices.
     match M::SIDE {
-        0 | 1 => {}
-        side => {
-            if width == side && height == side {
-                return transpose_block(cells, source, width, height);
-            }
-        }
+        4 if width == 4 && height == 4 => return transpose_block::<4, _, _>(cells, source),
+        8 if width == 8 && height == 8 => return transpose_block::<8, _, _>(cells, source),
+        _ => {}
     }
     if height <= 1 {
         return cells.copy(source);
@@ -185,27 +182,24 @@ fn transpose_tiny_apart<M: Output, R: Source<Item = M::Item> + Copy>(
     transpose_tiny(cells, source, width, height)
 }
 
-/// Transposes a matrix of one block, in the holder's own way.
+/// Transposes a matrix of one block, in the holder's own way. The side is a constant, and with it the distance of its rows.
 ///
 /// # Contract
 ///
 /// ```text
-/// requires some_cols { 0 < width }
-/// requires some_rows { 0 < height }
-/// requires input_fits { length (R.items source) ≡ width * height }
-/// requires output_fits { length (M.items cells) ≡ width * height }
+/// requires some { 0 < SIDE }
+/// requires input_fits { length (R.items source) ≡ SIDE * SIDE }
+/// requires output_fits { length (M.items cells) ≡ SIDE * SIDE }
 /// requires len_fits { length (R.items source) < 2 ^ 64 }
-/// ensures order { IsTranspose width height (R.items source) (M.items result) }
-/// ensures holder { M.same_holder (width * height) cells result }
+/// ensures order { IsTranspose SIDE SIDE (R.items source) (M.items result) }
+/// ensures holder { M.same_holder (SIDE * SIDE) cells result }
 /// ```
 #[inline(never)]
-fn transpose_block<M: Output, R: Source<Item = M::Item> + Copy>(
+fn transpose_block<const SIDE: usize, M: Output, R: Source<Item = M::Item> + Copy>(
     cells: M,
     source: R,
-    width: usize,
-    height: usize,
 ) -> M {
-    let matrix = Matrix::new(source, width, height);
+    let matrix = Matrix::new(source, SIDE, SIDE);
     let whole = matrix.whole();
     put_as_block(cells, matrix, whole)
 }
@@ -404,6 +398,20 @@ pub(crate) fn transpose_region<M: Output, R: Source<Item = M::Item> + Copy>(
     } else {
         put_region(cells, matrix, region, true)
     }
+}
+
+/// Reverses the order of items by index bits.
+///
+/// # Contract
+///
+/// ```text
+/// requires { IsReversible (length (M.items items)) }
+/// ensures order { IsReversal (M.items items) (M.items result) }
+/// ensures holder { M.same_holder (short_swaps (clog (length (M.items items)))) items result }
+/// ```
+#[inline(never)]
+pub(crate) fn reverse<M: Places>(items: M) -> M {
+    reverse_short(items)
 }
 
 /// Reverses the order of rows of `row_width` items by index bits.

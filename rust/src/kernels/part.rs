@@ -17,7 +17,7 @@ use crate::kernels::parts::{Part, ReversalPlan, TransposePlan};
 ///     (R.items source) (M.items cells) (M.items result) }
 /// ensures holder { M.same_holder (items_of (region_of part.plan part.number)) cells result }
 /// ```
-#[inline(always)]
+#[inline(never)]
 pub(crate) fn transpose_part<M: Output, R: Source<Item = M::Item> + Copy>(
     cells: M,
     source: R,
@@ -37,7 +37,6 @@ pub(crate) fn transpose_part<M: Output, R: Source<Item = M::Item> + Copy>(
 /// ensures { IsPartMade part.plan part.number (M.items items) (M.items result)
 ///     (λ n. M.same_holder n items result) }
 /// ```
-#[inline(always)]
 pub(crate) fn reverse_part<M: Places>(items: M, part: Part<ReversalPlan>) -> M {
     match part.patch() {
         Ok(patch) => patch.exchange(items),

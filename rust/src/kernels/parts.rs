@@ -12,12 +12,14 @@
 //! parts together have the effect of the call, however their steps are interleaved.
 
 mod asked;
-mod numbers;
+pub(crate) mod lists;
+pub(crate) mod numbers;
 mod reversal;
 mod transpose;
 
-pub(crate) use asked::{one_part_items, ranges_of_side};
-pub(crate) use numbers::{Part, PartsLeft, Plan};
+pub(crate) use asked::{one_part_items, ranges_if_cut};
+pub(crate) use lists::{PartToRun, PartsToRun, Shared};
+pub(crate) use numbers::Part;
 use crate::kernels::kernel::{RowDigits, TILE, exchange_quadrants, exchange_region, pow2};
 use crate::kernels::places::Places;
 use crate::kernels::transpose::Region;

@@ -8,10 +8,10 @@
 //! If the processor does not move unaligned bytes as fast as aligned ones, each type has kernels of its own.
 
 use super::holders::{Bytes, Items, MOVES_BYTES, SliceItems, SliceSource, USES_REGISTERS, Vector};
-use super::{by_type, part_by_type};
-use crate::kernels::bytes::{Instances, is_run};
-use crate::kernels::parts::{Part, ReversalPlan, TransposePlan};
+use crate::kernels::bytes::{self, ByteInstances, Instances, is_run};
+use crate::kernels::parts::{Part, ReversalPlan, RowPairs, TransposePlan};
 use crate::kernels::registers::{Pair, Two};
+use crate::kernels::{calls, part};
 
 /// `by_size!(size)` is whether the size is in this table. `by_size!(size, holder = list => call, _ => other)` is `call` if
 /// it is, and otherwise `other`. In `call`, `holder` is the holder of the list as items of this size.
@@ -46,8 +46,8 @@ pub(super) fn reverse<F>(items: SliceItems<F>) {
     }
     by_size!(
         const { size_of::<F>() },
-        holder = items => by_type::reverse(holder),
-        _ => by_type::reverse(items)
+        holder = items => _ = calls::reverse(holder),
+        _ => _ = calls::reverse(items)
     );
 }
 
@@ -56,16 +56,16 @@ pub(super) fn reverse_rows<F>(items: SliceItems<F>, row_width: usize) {
     if MOVES_BYTES {
         reverse_rows_of_bytes(items.in_bytes(), row_width * size_of::<F>());
     } else {
-        by_type::reverse_rows(items, row_width);
+        let _ = calls::reverse_rows(items, row_width);
     }
 }
 
 #[inline(always)]
-pub(super) fn transpose<T: Copy>(cells: SliceItems<T>, source: SliceSource<T>, width: usize, height: usize) {
+pub(super) fn transpose_whole<T: Copy>(cells: SliceItems<T>, source: SliceSource<T>, width: usize, height: usize) {
     by_size!(
         const { size_of::<T>() },
-        holder = cells => by_type::transpose(holder, source.in_bytes(), width, height),
-        _ => by_type::transpose(cells, source, width, height)
+        holder = cells => _ = calls::transpose_whole(holder, source.in_bytes(), width, height),
+        _ => _ = calls::transpose_whole(cells, source, width, height)
     );
 }
 
@@ -74,7 +74,7 @@ pub(super) fn transpose_part<T: Copy>(cells: SliceItems<T>, source: SliceSource<
     if const { by_size!(size_of::<T>()) } {
         transpose_part_of_bytes(cells.in_bytes(), source.in_bytes(), part, size_of::<T>());
     } else {
-        part_by_type::transpose_part(cells, source, part);
+        let _ = part::transpose_part(cells, source, part);
     }
 }
 
@@ -95,41 +95,60 @@ pub(super) fn reverse_part<F>(items: SliceItems<F>, bytes: usize, part: Part<Rev
     if const { by_size!(size_of::<F>()) } || bytes != size_of::<F>() {
         reverse_part_of_bytes(items.in_bytes(), bytes, part);
     } else {
-        part_by_type::reverse_part(items, bytes, part);
+        let _ = part::reverse_part(items, part);
     }
 }
 
 /// A list of items or rows that are taken as bytes.
 type ByteList<'a> = SliceItems<'a, Bytes<1>>;
 
+impl ByteInstances for ByteList<'_> {
+    type Done = ();
+
+    #[inline(always)]
+    fn reverse_places(self, row: usize) -> Result<(), Self> {
+        by_size!(
+            row,
+            holder = self => {
+                let _ = calls::reverse(holder);
+                Ok(())
+            },
+            _ => Err(self)
+        )
+    }
+
+    #[inline(always)]
+    fn reverse_runs(self, row: usize) {
+        let _ = calls::reverse_rows(self, row);
+    }
+
+    #[inline(always)]
+    fn exchange(self, place: usize, patch: Part<RowPairs>) {
+        by_size!(
+            place,
+            holder = self => _ = patch.exchange(holder),
+            _ => unreachable!("these items have kernels of their type")
+        );
+    }
+}
+
 /// Reverses the order of rows of `row` bytes each by index bits.
 #[inline(never)]
 fn reverse_rows_of_bytes(list: ByteList, row: usize) {
-    by_size!(
-        row,
-        holder = list => by_type::reverse(holder),
-        _ => by_type::reverse_rows(list, row)
-    );
+    bytes::reverse_rows(list, row);
 }
 
-/// Makes the exchanges of a part, whose places have so many `bytes`. If it is a patch, this size is in the table.
+/// Makes the exchanges of a part, whose places have so many `bytes`.
 #[inline(never)]
 fn reverse_part_of_bytes(list: ByteList, bytes: usize, part: Part<ReversalPlan>) {
-    match part.patch() {
-        Err(row_width) => reverse_rows_of_bytes(list, row_width * bytes),
-        Ok(patch) => by_size!(
-            bytes,
-            holder = list => _ = patch.exchange(holder),
-            _ => unreachable!("these items have kernels of their type")
-        ),
-    }
+    bytes::reverse_part(list, bytes, part);
 }
 
 #[inline(never)]
 fn transpose_part_of_bytes(cells: ByteList, source: SliceSource<Bytes<1>>, part: Part<TransposePlan>, size: usize) {
     by_size!(
         size,
-        holder = cells => part_by_type::transpose_part(holder, source.in_bytes(), part),
+        holder = cells => _ = part::transpose_part(holder, source.in_bytes(), part),
         _ => unreachable!("this size has no kernels here")
     );
 }

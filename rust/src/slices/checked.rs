@@ -4,6 +4,7 @@
 use core::mem::take;
 
 use crate::kernels::calls::Output;
+use crate::kernels::parts::Shared;
 use crate::kernels::places::{Block, Cells, Places, SliceCells, SlicePlaces, Source};
 // A whole list is no range of another one, so no index has to be moved.
 pub(super) use crate::kernels::places::{SlicePlaces as WholeList, SliceSource};
@@ -30,9 +31,11 @@ impl<'a, T> SliceItems<'a, T> {
             share,
         }
     }
+}
 
+impl<T> Shared for SliceItems<'_, T> {
     /// Removes the next share and returns it.
-    pub(super) fn share(&mut self) -> Self {
+    fn share(&mut self) -> Self {
         let middle = self.share.min(self.items.len());
         let (items, rest) = take(&mut self.items).split_at_mut(middle);
         self.items = rest;

@@ -17,6 +17,7 @@ pub(crate) use registers::USES_REGISTERS;
 pub(super) use registers::{Items, Vector};
 
 use crate::kernels::calls::Output;
+use crate::kernels::parts::Shared;
 use crate::kernels::places::{Block, Cells, Places, Source};
 use crate::kernels::registers::blocks::{
     LinesOfCells, RunsOfCells, SquaresOfCells, put_in_lines_if_runs, put_in_squares_if_runs,
@@ -92,11 +93,6 @@ impl<'a, T> SliceItems<'a, T> {
         SliceItems::new(slice)
     }
 
-    /// The same items, for one part. No two parts of a call change the same place.
-    pub(super) fn share(&mut self) -> Self {
-        SliceItems { ..*self }
-    }
-
     /// The bytes of the items, `N` at a time.
     #[inline(always)]
     pub(super) fn in_bytes<const N: usize>(self) -> SliceItems<'a, Bytes<N>> {
@@ -107,6 +103,13 @@ impl<'a, T> SliceItems<'a, T> {
     #[inline(always)]
     pub(super) fn in_registers<D: Register<T>>(self) -> SliceItems<'a, T, D> {
         SliceItems::of(self.first, self.len)
+    }
+}
+
+impl<T> Shared for SliceItems<'_, T> {
+    /// The same items. No two parts of a call change the same place.
+    fn share(&mut self) -> Self {
+        SliceItems { ..*self }
     }
 }
 

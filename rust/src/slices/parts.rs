@@ -26,7 +26,7 @@ use core::iter::FusedIterator;
 
 use super::{SliceItems, SliceSource, instances};
 use crate::kernels::bytes::plan_in_bytes;
-use crate::kernels::parts::{Part, PartsLeft, Plan, ReversalPlan, TransposePlan, one_part_items, ranges_of_side};
+use crate::kernels::parts::{PartToRun, PartsToRun, ReversalPlan, TransposePlan, one_part_items, ranges_if_cut};
 use crate::kernels::reverse::fits_rows;
 use crate::kernels::transpose::fits_matrix;
 
@@ -54,37 +54,19 @@ pub const fn one_part_reversal<F>() -> usize {
 
 /// The remaining parts of a transpose, as an iterator of known length.
 #[must_use = "a part that is not run leaves its cells as they are"]
-pub struct TransposeParts<'a, T>(PartsToRun<'a, T, TransposePlan, &'a [T]>);
+pub struct TransposeParts<'a, T>(PartsToRun<SliceItems<'a, T>, TransposePlan, &'a [T]>);
 
 /// A part of a transpose. It is `Send` if its items are `Send` and `Sync`, and it is `Sync` if they are.
 #[must_use = "a part that is not run leaves its cells as they are"]
-pub struct TransposePart<'a, T>(PartToRun<'a, T, TransposePlan, &'a [T]>);
+pub struct TransposePart<'a, T>(PartToRun<SliceItems<'a, T>, TransposePlan, &'a [T]>);
 
 /// The remaining parts of a reversal, as an iterator of known length.
 #[must_use = "a part that is not run leaves the list neither as it was nor reversed"]
-pub struct ReversalParts<'a, F>(PartsToRun<'a, F, ReversalPlan, usize>);
+pub struct ReversalParts<'a, F>(PartsToRun<SliceItems<'a, F>, ReversalPlan, usize>);
 
 /// A part of a reversal. It is `Send` if its items are, and `Sync` if they are.
 #[must_use = "a part that is not run leaves the list neither as it was nor reversed"]
-pub struct ReversalPart<'a, F>(PartToRun<'a, F, ReversalPlan, usize>);
-
-/// The list of a call, and the parts of it that are left. Every part is handed out once, and no two have a place in common:
-/// `kernels/parts.rs` is proved.
-///
-/// [`transpose`] and [`cut`] set the fields together: `items` is the list that the plan was made for. This stays true, since
-/// the fields are private and there is no `Clone`.
-struct PartsToRun<'a, T, P: Plan, I> {
-    items: SliceItems<'a, T>,
-    left: PartsLeft<P>,
-    /// What else a part needs: the input of a transpose, or how many bytes a place of a reversal has.
-    input: I,
-}
-
-struct PartToRun<'a, T, P: Plan, I> {
-    items: SliceItems<'a, T>,
-    part: Part<P>,
-    input: I,
-}
+pub struct ReversalPart<'a, F>(PartToRun<SliceItems<'a, F>, ReversalPlan, usize>);
 
 /// Does what [`plan_in_bytes`] does, for the instances of this build. A user's crate has no code of it, since it is not generic.
 fn plan_of(len: usize, size: usize, row_width: usize, ranges: Option<usize>) -> (usize, ReversalPlan) {
@@ -120,10 +102,8 @@ pub fn transpose<'a, T: Copy + Send + Sync>(
     }
     let height = if size_of::<T>() == 0 { 0 } else { height };
     let plan = TransposePlan::new(width, height, parts, cfg!(not(feature = "checked")));
-    // If the columns are cut, each region fills a run of this many cells. The last region may fill fewer.
-    let cells = if plan.count() == 0 { 0 } else { plan.items(0) };
-    let (items, left) = (SliceItems::in_shares(output, cells), PartsLeft::of(plan));
-    TransposeParts(PartsToRun { items, left, input })
+    let cells = SliceItems::in_shares(output, plan.cells_of_region());
+    TransposeParts(PartsToRun::of(cells, plan, input))
 }
 
 /// Cuts [`reverse_slice_index_bits`](crate::reverse_slice_index_bits) into about twice as many parts as you ask for.
@@ -161,8 +141,8 @@ pub fn reversal<F: Send>(vals: &mut [F], parts: usize) -> ReversalParts<'_, F> {
 #[track_caller]
 #[must_use = "the list is reversed by the parts, and none has run yet"]
 pub fn row_reversal<F: Send>(vals: &mut [F], row_width: usize, parts: usize) -> ReversalParts<'_, F> {
-    let is_cut = vals.len() > one_part_reversal::<F>();
-    cut(vals, row_width, is_cut.then(|| ranges_of_side(parts)))
+    let ranges = ranges_if_cut(vals.len(), one_part_reversal::<F>(), parts);
+    cut(vals, row_width, ranges)
 }
 
 /// The parts of a reversal. Each side of a square is cut into at most so many `ranges`. With `None` the list is one part.
@@ -172,27 +152,16 @@ pub(super) fn cut<F>(vals: &mut [F], row_width: usize, ranges: Option<usize>) ->
     if !fits_rows(len, row_width) {
         crate::refuse_rows(len, row_width);
     }
-    let (input, plan) = plan_of(len, size_of::<F>(), row_width, ranges);
-    let (items, left) = (SliceItems::in_shares(vals, len), PartsLeft::of(plan));
-    ReversalParts(PartsToRun { items, left, input })
-}
-
-impl<'a, T, P: Plan, I: Copy> PartsToRun<'a, T, P, I> {
-    fn split_first(&mut self) -> Option<PartToRun<'a, T, P, I>> {
-        // No other part has a place of this one. Therefore it may have a share of `items` while other parts have theirs.
-        let part = self.left.hand_out()?;
-        let (items, input) = (self.items.share(), self.input);
-        Some(PartToRun { items, part, input })
-    }
+    let (bytes, plan) = plan_of(len, size_of::<F>(), row_width, ranges);
+    ReversalParts(PartsToRun::of(SliceItems::in_shares(vals, len), plan, bytes))
 }
 
 impl<T: Copy> TransposePart<'_, T> {
     /// Writes the items of this part to the output.
     #[inline]
     pub fn run(self) {
-        // Both lists have as many items as the matrix: `transpose` checked that.
-        let PartToRun { items, part, input } = self.0;
-        instances::transpose_part(items, SliceSource::new(input), part);
+        let (cells, input, part) = self.0.taken();
+        instances::transpose_part(cells, SliceSource::new(input), part);
     }
 }
 
@@ -200,9 +169,8 @@ impl<F> ReversalPart<'_, F> {
     /// Exchanges the items of this part.
     #[inline]
     pub fn run(self) {
-        // The plan is one for the rows of `items`: `cut` checked these, and `plan_in_bytes` says so (`plan`).
-        let PartToRun { items, part, input } = self.0;
-        instances::reverse_part(items, input, part);
+        let (items, bytes, part) = self.0.taken();
+        instances::reverse_part(items, bytes, part);
     }
 }
 
@@ -212,11 +180,11 @@ macro_rules! iterators {
             type Item = $part<'a, T>;
 
             fn next(&mut self) -> Option<$part<'a, T>> {
-                self.0.split_first().map($part)
+                self.0.hand_out().map($part)
             }
 
             fn size_hint(&self) -> (usize, Option<usize>) {
-                (self.0.left.count(), Some(self.0.left.count()))
+                (self.0.count(), Some(self.0.count()))
             }
         }
 
@@ -232,7 +200,7 @@ macro_rules! iterators {
 
         impl<T> fmt::Debug for $part<'_, T> {
             fn fmt(&self, f: &mut fmt::Formatter<'_>) -> fmt::Result {
-                f.debug_struct(stringify!($part)).field("number", &self.0.part.number()).finish()
+                f.debug_struct(stringify!($part)).field("number", &self.0.number()).finish()
             }
         }
     )*};

@@ -752,6 +752,8 @@ mod refused {
 #[cfg(feature = "checked")]
 #[test]
 fn shares() {
+    use crate::kernels::parts::Shared;
+
     let mut list = [0, 1, 2, 3, 4];
     let mut items = SliceItems::in_shares(&mut list, 3);
     let (mut first, mut second) = (items.share(), items.share());

@@ -1,8 +1,16 @@
 //! With the feature `checked`, there are kernels for each type of item, and none for each size.
 
-pub(super) use super::by_type::{reverse, reverse_rows, transpose};
-pub(super) use super::part_by_type::{reverse_part, transpose_part};
+use super::holders::SliceItems;
 use crate::kernels::bytes::Instances;
+pub(super) use crate::kernels::calls::{reverse, reverse_rows, transpose_whole};
+use crate::kernels::part;
+pub(super) use crate::kernels::part::transpose_part;
+use crate::kernels::parts::{Part, ReversalPlan};
+
+/// Makes the exchanges of a part, whose places are the items.
+pub(super) fn reverse_part<F>(items: SliceItems<F>, _: usize, part: Part<ReversalPlan>) {
+    let _ = part::reverse_part(items, part);
+}
 
 /// No size.
 pub(super) struct Sizes;

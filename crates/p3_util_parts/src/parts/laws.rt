@@ -39,7 +39,8 @@ ghost use Rattle.p3_util_kernels.specs.Reversal.{IsRowReversal};
 ghost use Rattle.p3_util_kernels.specs.SwapCounts.{row_swaps};
 ghost use Rattle.p3_util_kernels.specs.Transpose.{IsTranspose};
 
-use crate::parts::{Plan, ReversalPlan, TransposePlan};
+use crate::parts::numbers::Plan;
+use crate::parts::{ReversalPlan, TransposePlan};
 use p3_util_kernels::kernel::{Matrix, PutRegion, RowDigits, reverse_rows};
 use p3_util_kernels::places::{Cells, Places, Source};
 

@@ -1,6 +1,6 @@
 //! The regions that the transpose of a matrix is cut into.
 
-ghost use Rattle.std.specs.Prelude.{◌≡◌, ℕ, ◌+◌, ◌*◌, ◌%◌, ◌^◌, ◌<◌, ◌≤◌, ◌↔◌, IsTrue, if◌then◌else◌, length, max};
+ghost use Rattle.std.specs.Prelude.{◌≡◌, ℕ, ◌+◌, ◌*◌, ◌%◌, ◌^◌, ◌<◌, ◌≤◌, ◌↔◌, IsTrue, false, if◌then◌else◌, length, max};
 ghost use Rattle.p3_util_parts.specs.Parts.{IsLeastPartLen, part_of_matrix, parts_in, start_of};
 ghost use Rattle.p3_util_kernels.specs.Region.{IsRegionTransposed, LiesInMatrix, items_of};
 
@@ -92,6 +92,21 @@ impl TransposePlan {
     {
         let region = self.region(number);
         region.rows() * region.cols()
+    }
+
+    /// How many cells each region fills if the columns are cut. They are next to each other, and right after those of the region
+    /// before it. The last region may fill fewer.
+    #[tactic(auto, using(crate::proofs::CutParts::runs_start))]
+    #[doc(hidden)]
+    pub fn cells_of_region(self) -> usize
+        ensures { self.by_rows ≡ false → (k : ℕ) → k < parts_in self.cut.len self.cut.part_len
+            → start_of self.cut.len self.cut.part_len k * self.height ≡ k * result }
+    {
+        if self.cut.count() == 0 {
+            0
+        } else {
+            self.items(0)
+        }
     }
 }
 

@@ -57,10 +57,11 @@
 //!   ensures items: result ≤ 2 ^ 16
 //!   ensures bytes: result * size ≤ 2 ^ 21
 //!   ensures most: result < 2 ^ 16 → 2 ^ 21 < (result + 1) * size
-//! fn ranges_of_side(parts: usize) -> usize
-//!   ensures some: 0 < result
-//!   ensures fits: (result - 1) * (result - 1) ≤ 4 * (parts - 1)
-//!   ensures most: 4 * (parts - 1) < 2 ^ 64 → 4 * (parts - 1) < result * result
+//! fn ranges_if_cut(len: usize, one_part: usize, parts: usize) -> Option<usize>
+//!   ensures one: IfNone result (len ≤ one_part)
+//!   ensures cut: IfSome result (λ ranges. (one_part < len) × (0 < ranges))
+//!   ensures fits: IfSome result (λ ranges. (ranges - 1) * (ranges - 1) ≤ 4 * (parts - 1))
+//!   ensures most: IfSome result (λ ranges. 4 * (parts - 1) < 2 ^ 64 → 4 * (parts - 1) < ranges * ranges)
 //! ```
 //!
 //! # `parts/laws.rt`
@@ -127,6 +128,59 @@
 //!   ensures: (p : ℕ) → IsPlaceOfRegion (region_of plan number) plan.height p ↔ ((start_of plan.cut.len
 //!       plan.cut.part_len number * plan.height ≤ p) × (p < start_of plan.cut.len plan.cut.part_len (number + 1) *
 //!       plan.height))
+//! ```
+//!
+//! # `parts/lists.rt`
+//!
+//! ```text
+//! trait Shared
+//!   ghost len: Self → ℕ
+//!   ghost bytes: Self → ℕ
+//!   fn share(&mut self) -> Self where Self: Sized
+//!     ensures len: len result ≡ len self.old
+//!     ensures bytes: bytes result ≡ bytes self.old
+//!     ensures len_left: len self.new ≡ len self.old
+//!     ensures bytes_left: bytes self.new ≡ bytes self.old
+//! trait Given<P: Plan>: Copy
+//!   ghost is_for: P → Self → (len bytes : ℕ) → Type 0
+//! impl<T> Given<TransposePlan> for &[T]
+//!   ghost is_for = λ plan input len bytes. 0 < parts_in plan.cut.len plan.cut.part_len → (length input.now ≡
+//!       plan.width * plan.height) × (len ≡ plan.width * plan.height)
+//! impl Given<ReversalPlan> for usize
+//!   ghost is_for = λ plan place len bytes. (0 < place) × (bytes / place * place ≡ bytes) × IsReversalPlan (bytes /
+//!       place) plan
+//! struct PartsToRun<L: Shared, P: Plan, I: Given<P>> { list: L, left: PartsLeft<P>, given: I, pub ghost fits: { ∥
+//!     I.is_for left.plan given (L.len list) (L.bytes list) ∥₁ } }
+//! struct PartToRun<L: Shared, P: Plan, I: Given<P>> { share: L, part: Part<P>, given: I, pub ghost fits: { ∥ I.is_for
+//!     part.plan given (L.len share) (L.bytes share) ∥₁ } }
+//! fn PartsToRun::of(list: L, plan: P, given: I) -> Self
+//!   requires: I.is_for plan given (L.len list) (L.bytes list)
+//!   ensures list: result.list ≡ list
+//!   ensures plan: result.left.plan ≡ plan
+//!   ensures first: result.left.next ≡ 0
+//!   ensures last: result.left.end ≡ P.parts plan
+//!   ensures given: result.given ≡ given
+//! fn PartsToRun::count(&self) -> usize
+//!   ensures: self.now.left.next + result ≡ self.now.left.end
+//! fn PartsToRun::hand_out(&mut self) -> Option<PartToRun<L, P, I>>
+//!   ensures plan: self.new.left.plan ≡ self.old.left.plan
+//!   ensures last: self.new.left.end ≡ self.old.left.end
+//!   ensures given: self.new.given ≡ self.old.given
+//!   ensures len: L.len self.new.list ≡ L.len self.old.list
+//!   ensures bytes: L.bytes self.new.list ≡ L.bytes self.old.list
+//!   ensures share: IfSome result (λ next. (L.len next.share ≡ L.len self.old.list) × (L.bytes next.share ≡ L.bytes
+//!       self.old.list))
+//!   ensures some: IfSome result (λ next. (next.part.plan ≡ self.old.left.plan) × (next.part.number ≡
+//!       self.old.left.next) × (next.given ≡ self.old.given) × (self.new.left.next ≡ self.old.left.next + 1))
+//!   ensures none: IfNone result ((self.old.left.next ≡ self.old.left.end) × (self.new.left.next ≡ self.old.left.next))
+//! fn PartToRun::number(&self) -> usize
+//!   ensures number: result ≡ self.now.part.number
+//!   ensures below: result < P.parts self.now.part.plan
+//! fn PartToRun::taken(self) -> (L, I, Part<P>)
+//!   ensures fits: ∥ I.is_for result.2.plan result.1 (L.len result.0) (L.bytes result.0) ∥₁
+//!   ensures share: result.0 ≡ self.share
+//!   ensures given: result.1 ≡ self.given
+//!   ensures part: result.2 ≡ self.part
 //! ```
 //!
 //! # `parts/numbers.rt`
@@ -202,6 +256,9 @@
 //!   requires: number < parts_in self.cut.len self.cut.part_len
 //!   ensures: result ≡ items_of (part_of_matrix self.width self.height self.by_rows self.cut.len self.cut.part_len
 //!       number)
+//! fn TransposePlan::cells_of_region(self) -> usize
+//!   ensures: self.by_rows ≡ false → (k : ℕ) → k < parts_in self.cut.len self.cut.part_len → start_of self.cut.len
+//!       self.cut.part_len k * self.height ≡ k * result
 //! impl Plan for TransposePlan
 //!   ghost parts = λ plan. parts_in plan.cut.len plan.cut.part_len
 //! fn Part::region(&self) -> Region
@@ -212,4 +269,13 @@
 //!   ensures source: result.source ≡ source
 //!   ensures width: result.width ≡ self.now.plan.width
 //!   ensures height: result.height ≡ self.now.plan.height
+//! ```
+//!
+//! # `parts/witness.rt`
+//!
+//! ```text
+//! struct Length { len: usize }
+//! impl Shared for Length
+//!   ghost len = λ list. list.len
+//!   ghost bytes = λ list. list.len
 //! ```

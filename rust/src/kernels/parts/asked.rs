@@ -38,6 +38,24 @@ pub(crate) const fn one_part_items(size: usize) -> usize {
 /// ensures fits { (result - 1) * (result - 1) ≤ 4 * (parts - 1) }
 /// ensures most { 4 * (parts - 1) < 2 ^ 64 → 4 * (parts - 1) < result * result }
 /// ```
-pub(crate) const fn ranges_of_side(parts: usize) -> usize {
+const fn ranges_of_side(parts: usize) -> usize {
     1 + parts.saturating_sub(1).saturating_mul(4).isqrt()
+}
+
+/// Into how many ranges each side of a grid is cut at most, for a list of `len` items. Up to `one_part` items are one part.
+///
+/// # Contract
+///
+/// ```text
+/// ensures one { IfNone result (len ≤ one_part) }
+/// ensures cut { IfSome result (λ ranges. (one_part < len) × (0 < ranges)) }
+/// ensures fits { IfSome result (λ ranges. (ranges - 1) * (ranges - 1) ≤ 4 * (parts - 1)) }
+/// ensures most { IfSome result (λ ranges. 4 * (parts - 1) < 2 ^ 64 → 4 * (parts - 1) < ranges * ranges) }
+/// ```
+pub(crate) const fn ranges_if_cut(len: usize, one_part: usize, parts: usize) -> Option<usize> {
+    if len <= one_part {
+        None
+    } else {
+        Some(ranges_of_side(parts))
+    }
 }

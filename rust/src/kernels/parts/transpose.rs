@@ -95,6 +95,23 @@ impl TransposePlan {
         let region = self.region(number);
         region.rows() * region.cols()
     }
+
+    /// How many cells each region fills if the columns are cut. They are next to each other, and right after those of the region
+    /// before it. The last region may fill fewer.
+    ///
+    /// # Contract
+    ///
+    /// ```text
+    /// ensures { self.by_rows ≡ false → (k : ℕ) → k < parts_in self.cut.len self.cut.part_len
+    ///     → start_of self.cut.len self.cut.part_len k * self.height ≡ k * result }
+    /// ```
+    pub(crate) fn cells_of_region(self) -> usize {
+        if self.cut.count() == 0 {
+            0
+        } else {
+            self.items(0)
+        }
+    }
 }
 
 impl Plan for TransposePlan {

@@ -5,9 +5,10 @@ use std::array::from_fn;
 use std::collections::BTreeSet;
 use std::vec::Vec;
 
-use super::{cut, one_part_reversal, ranges_of_side, row_reversal, transpose};
+use super::{cut, one_part_reversal, ranges_if_cut, row_reversal, transpose};
 use crate::kernels::lines::Lines;
-use crate::kernels::parts::{Cut, Plan, RowPairs, TransposePlan};
+use crate::kernels::parts::numbers::Plan;
+use crate::kernels::parts::{Cut, RowPairs, TransposePlan};
 use crate::kernels::places::{Places, SliceCells, SlicePlaces, SliceSource};
 use crate::kernels::reverse::{RowDigits, reverse_rows};
 use crate::kernels::transpose::{Columns, Matrix, Order, PutRegion, Strips};
@@ -82,6 +83,11 @@ fn regions_of_matrices() {
     }
 }
 
+/// Into how many ranges a side is cut at most, for a list that is cut.
+fn ranges(asked: usize) -> usize {
+    ranges_if_cut(1, 0, asked).unwrap()
+}
+
 /// A list of rows is one part if it is not cut, as up to a given number of items.
 #[test]
 fn lists_up_to_one_part() {
@@ -94,8 +100,8 @@ fn lists_up_to_one_part() {
     assert_eq!([count(3 << 9, 3, Some(5)), count(3 << 9, 3, None)], [20, 1]);
     // Four times this number does not fit.
     let many = usize::MAX / 4 + 2;
-    assert_eq!([1, 2, 5, 26].map(ranges_of_side), [1, 3, 5, 11]);
-    assert_eq!(ranges_of_side(many), ranges_of_side(usize::MAX));
+    assert_eq!([1, 2, 5, 26].map(ranges), [1, 3, 5, 11]);
+    assert_eq!(ranges(many), ranges(usize::MAX));
     let are_cut = [1 << 16, 1 << 17].map(|len| row_reversal(&mut std::vec![0u8; len], 4, 5).len() > 1);
     assert_eq!(are_cut, [false, cfg!(not(feature = "checked"))]);
 }
@@ -147,12 +153,12 @@ fn exchange_by_plan<const N: usize, const WIDTH: usize>(rows: &mut [[[u8; N]; WI
         not(unaligned_is_slow)
     ));
     if moves_rows && matches!(N * WIDTH, 1 | 2 | 4 | 8 | 12 | 16 | 20 | 32 | 64) {
-        exchange(SlicePlaces::new(rows), 1, ranges_of_side(asked), is_cut, number);
+        exchange(SlicePlaces::new(rows), 1, ranges(asked), is_cut, number);
     } else {
         exchange(
             SlicePlaces::new(rows.as_flattened_mut()),
             WIDTH,
-            ranges_of_side(asked),
+            ranges(asked),
             is_cut,
             number,
         );

@@ -1,8 +1,9 @@
 //! Parts of transposes that are put by lines from 1 KiB on. For a user's parts that limit is 16 MiB.
 
-use super::super::{PartToRun, TransposePart};
+use super::super::TransposePart;
 use crate::kernels::calls::Output;
 use crate::kernels::choice::Limits;
+use crate::kernels::part::transpose_part;
 use crate::kernels::places::{Block, Cells, Source};
 #[cfg(not(feature = "checked"))]
 use crate::kernels::registers::{Pair, Two};
@@ -10,7 +11,6 @@ use crate::kernels::transpose::{Matrix, PutRegion, Region};
 use crate::slices::holders::SliceSource;
 #[cfg(not(feature = "checked"))]
 use crate::slices::holders::{Items, USES_REGISTERS, Vector};
-use crate::slices::part_by_type::transpose_part;
 use crate::slices::tests::near;
 
 /// The cells of a holder, with these limits.
@@ -64,12 +64,12 @@ impl<H: Output> Output for Near<H> {
 impl<T: Copy> TransposePart<'_, T> {
     /// Does what `run` does.
     pub(in crate::slices) fn run_near(self) {
-        let PartToRun { items, part, input } = self.0;
+        let (items, input, part) = self.0.taken();
         let source = SliceSource::new(input);
         #[cfg(not(feature = "checked"))]
         macro_rules! put_in {
             ($registers:ty) => {
-                transpose_part(
+                _ = transpose_part(
                     Near(items.in_bytes().in_registers::<$registers>()),
                     source.in_bytes(),
                     part,
@@ -83,7 +83,7 @@ impl<T: Copy> TransposePart<'_, T> {
             8 if USES_REGISTERS => put_in!(Pair<Items<8>>),
             #[cfg(not(feature = "checked"))]
             16 if USES_REGISTERS => put_in!(Two<Vector>),
-            _ => transpose_part(Near(items), source, part),
+            _ => _ = transpose_part(Near(items), source, part),
         }
     }
 }

@@ -7,6 +7,9 @@ use std::thread::scope;
 use std::vec::Vec;
 
 use super::super::*;
+use crate::kernels::parts::Shared;
+use crate::kernels::parts::lists::Given;
+use crate::kernels::parts::numbers::Plan;
 use crate::slices::tests::transposed;
 
 /// `i`, which has `digits` binary digits, with the digits in reversed order.
@@ -96,16 +99,11 @@ fn parts_on_threads() {
     }
 }
 
-/// Takes two plans for the list of `parts`, and one part of each.
-fn of_both<'a, T, P: Plan, I: Copy>(
-    mut parts: PartsToRun<'a, T, P, I>,
-    plans: [(P, usize); 2],
-) -> [PartToRun<'a, T, P, I>; 2] {
+/// Takes two plans for a list, and one part of each.
+fn of_both<L: Shared, P: Plan, I: Given<P>>(mut list: L, given: I, plans: [(P, usize); 2]) -> [PartToRun<L, P, I>; 2] {
     plans.map(|(plan, number)| {
-        let mut left = PartsLeft::of(plan);
-        let part = from_fn(|| left.hand_out()).nth(number).unwrap();
-        let (items, input) = (parts.items.share(), parts.input);
-        PartToRun { items, part, input }
+        let mut parts = PartsToRun::of(list.share(), plan, given);
+        from_fn(|| parts.hand_out()).nth(number).unwrap()
     })
 }
 
@@ -113,11 +111,14 @@ fn of_both<'a, T, P: Plan, I: Copy>(
 /// and the whole square.
 fn exchanges_both(len: usize, row_width: usize) {
     let mut list: Vec<usize> = (0..len).collect();
-    let ReversalParts(parts) = cut(&mut list, row_width, Some(1));
-    let plans =
-        [1, 2].map(|ranges| plan_in_bytes::<instances::Sizes>(len, size_of::<usize>(), row_width, Some(ranges)).1);
-    assert_eq!(plans.map(Plan::count), [1, 3]);
-    let both = of_both(parts, plans.map(|plan| (plan, 0)));
+    let plans = [1, 2].map(|ranges| plan_of(len, size_of::<usize>(), row_width, Some(ranges)));
+    assert_eq!(plans.map(|(_, plan)| plan.count()), [1, 3]);
+    let bytes = plans[0].0;
+    let both = of_both(
+        SliceItems::in_shares(&mut list, len),
+        bytes,
+        plans.map(|(_, plan)| (plan, 0)),
+    );
     run_all(both.map(|part| std::vec![ReversalPart(part)]), ReversalPart::run);
 }
 
@@ -127,9 +128,8 @@ fn exchanges_both(len: usize, row_width: usize) {
 fn overlapping_regions() {
     let input: Vec<u32> = (0..64 * 64).collect();
     let mut output = input.clone();
-    let TransposeParts(parts) = transpose(&input, &mut output, 64, 64, 1);
     let cuts = [(2, 0), (4, 1)].map(|(count, part)| (TransposePlan::new(64, 64, count, true), part));
-    let both = of_both(parts, cuts);
+    let both = of_both(SliceItems::in_shares(&mut output, 0), &input[..], cuts);
     run_all(both.map(|part| std::vec![TransposePart(part)]), TransposePart::run_near);
 }
 
