@@ -156,7 +156,7 @@ def declarations(text):
     while at < len(source.tokens):
         start = at
         while source.text(at) not in HEAD_ENDS:
-            at = source.partner.get(at, at) + 1
+            at = max(at, source.partner.get(at, at)) + 1
         head, clauses, body = " ".join(source.between(start, at).split()), [], ""
         while source.text(at) in ("requires", "ensures"):
             brace = source.next("{", at)
