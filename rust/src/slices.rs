@@ -8,6 +8,8 @@
 //!
 //! On a system of 32 bits, `narrow.rs` has the holders: those of the kernels, which check each index too.
 
+use crate::kernels::calls;
+use crate::kernels::places::Places;
 use crate::kernels::reverse::fits_rows;
 use crate::kernels::transpose::fits_matrix;
 use crate::width::Index;
@@ -25,7 +27,19 @@ mod instances;
 pub mod parts;
 
 #[cfg(target_pointer_width = "32")]
-use crate::kernels::calls as instances;
+use {super::slices as instances, calls::transpose_whole};
+
+/// Reverses the order of items by index bits.
+#[inline(never)]
+fn reverse(items: impl Places) {
+    let _ = calls::reverse(items);
+}
+
+/// Reverses the order of rows by index bits. If this were inlined, a function that chooses would save registers before it does.
+#[inline(never)]
+fn reverse_rows(items: impl Places, row_width: Index) {
+    let _ = calls::reverse_rows(items, row_width);
+}
 
 /// Reverses the order of `vals` by index bits.
 ///

@@ -356,7 +356,7 @@ pub(crate) fn transpose_region<M: Output, R: Source<Item = M::Item> + Copy>(
 }
 
 /// Reverses the order of items by index bits.
-#[inline(never)]
+#[inline(always)]
 pub(crate) fn reverse<M: Places>(items: M) -> M
     requires { IsReversible (length (M.items items)) }
     ensures order { IsReversal (M.items items) (M.items result) }

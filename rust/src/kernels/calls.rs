@@ -409,7 +409,7 @@ pub(crate) fn transpose_region<M: Output, R: Source<Item = M::Item> + Copy>(
 /// ensures order { IsReversal (M.items items) (M.items result) }
 /// ensures holder { M.same_holder (short_swaps (clog (length (M.items items)))) items result }
 /// ```
-#[inline(never)]
+#[inline(always)]
 pub(crate) fn reverse<M: Places>(items: M) -> M {
     reverse_short(items)
 }

@@ -46,8 +46,8 @@ pub(super) fn reverse<F>(items: SliceItems<F>) {
     }
     by_size!(
         const { size_of::<F>() },
-        holder = items => _ = calls::reverse(holder),
-        _ => _ = calls::reverse(items)
+        holder = items => super::reverse(holder),
+        _ => super::reverse(items)
     );
 }
 
@@ -56,7 +56,7 @@ pub(super) fn reverse_rows<F>(items: SliceItems<F>, row_width: usize) {
     if MOVES_BYTES {
         reverse_rows_of_bytes(items.in_bytes(), row_width * size_of::<F>());
     } else {
-        let _ = calls::reverse_rows(items, row_width);
+        super::reverse_rows(items, row_width);
     }
 }
 
@@ -110,7 +110,7 @@ impl ByteInstances for ByteList<'_> {
         by_size!(
             row,
             holder = self => {
-                let _ = calls::reverse(holder);
+                super::reverse(holder);
                 Ok(())
             },
             _ => Err(self)
@@ -119,7 +119,7 @@ impl ByteInstances for ByteList<'_> {
 
     #[inline(always)]
     fn reverse_runs(self, row: usize) {
-        let _ = calls::reverse_rows(self, row);
+        super::reverse_rows(self, row);
     }
 
     #[inline(always)]

@@ -1,8 +1,9 @@
 //! With the feature `checked`, there are kernels for each type of item, and none for each size.
 
 use super::holders::SliceItems;
+pub(super) use super::{reverse, reverse_rows};
 use crate::kernels::bytes::Instances;
-pub(super) use crate::kernels::calls::{reverse, reverse_rows, transpose_whole};
+pub(super) use crate::kernels::calls::transpose_whole;
 use crate::kernels::part;
 pub(super) use crate::kernels::part::transpose_part;
 use crate::kernels::parts::{Part, ReversalPlan};
