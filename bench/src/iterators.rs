@@ -50,6 +50,52 @@ macro_rules! iters {
     };
 }
 
+/// The map of this many keys, collected from an iterator.
+macro_rules! collects {
+    ($name:literal, $items:literal) => {
+        timed!($name, $items, |library, keys| {
+            Box::new(move || {
+                let pairs = keys.iter().map(|&key| (key, !key));
+                let map: library::linear_map::LinearMap<u64, u64> = pairs.collect();
+                *black_box(&map).get(&keys[0]).unwrap()
+            })
+        })
+    };
+}
+
+/// A use of the keys or the values of a map with 8 keys, as a function of the iterator over them. `$each` is `keys` or
+/// `values`.
+macro_rules! parts_of_pairs {
+    ($name:literal, $each:ident, |$items:ident| $used:expr) => {
+        timed!($name, 8, |library, keys| {
+            let map: library::linear_map::LinearMap<u64, u64> = keys.iter().map(|&key| (key, !key)).collect();
+            Box::new(move || {
+                let $items = black_box(&map).$each();
+                $used
+            })
+        })
+    };
+}
+
+/// `apply_to_chunks` with chunks of this many bytes and a function that is called. `$each` makes an iterator over bytes from
+/// a list of 4090 items.
+macro_rules! chunks {
+    ($name:literal, $len:literal, |$list:ident| $each:expr) => {
+        timed!($name, 4090, |library, $list| {
+            Box::new(move || {
+                let (mut sum, $list) = (0, black_box(&$list));
+                library::apply_to_chunks::<$len, _, _>($each, |chunk| add_to(&mut sum, chunk));
+                sum
+            })
+        })
+    };
+}
+
+#[inline(never)]
+fn add_to(sum: &mut u64, chunk: &[u8]) {
+    *sum = sum.rotate_left(1) ^ u64::from(chunk[0]) ^ chunk.len() as u64;
+}
+
 /// A use of the pairs of two iterators over a list of 4096 items, as a function of the iterator over the pairs. `$each` makes
 /// each of the two from the list.
 macro_rules! pairs {
@@ -72,7 +118,7 @@ macro_rules! pairs {
 
 /// The calls. A program with few uses of an iterator does not show what it costs: the compiler inlines the only use of a
 /// function, and divides a program of many uses into units. So all of them are in this one.
-pub const ITERATED: [Timed; 28] = [
+pub const ITERATED: [Timed; 37] = [
     gets!("LinearMap::get of 1 key", 1),
     gets!("LinearMap::get of 8 keys", 8),
     gets!("LinearMap::get of 64 keys", 64),
@@ -85,6 +131,27 @@ pub const ITERATED: [Timed; 28] = [
     iters!("LinearMap::iter of 1 key", 1),
     iters!("LinearMap::iter of 8 keys", 8),
     iters!("LinearMap::iter of 64 keys", 64),
+    collects!("LinearMap::from_iter of 1 key", 1),
+    collects!("LinearMap::from_iter of 8 keys", 8),
+    collects!("LinearMap::from_iter of 64 keys", 64),
+    parts_of_pairs!("LinearMap::keys of 8 keys, fold", keys, |keys| total(keys.copied())),
+    parts_of_pairs!("LinearMap::keys of 8 keys, a for loop", keys, |keys| {
+        let mut sum = 0u64;
+        for key in keys {
+            sum = sum.rotate_left(1) ^ key;
+        }
+        sum
+    }),
+    parts_of_pairs!("LinearMap::values of 8 keys, fold", values, |values| total(
+        values.copied()
+    )),
+    parts_of_pairs!("LinearMap::values of 8 keys, a for loop", values, |values| {
+        let mut sum = 0u64;
+        for value in values {
+            sum = sum.rotate_left(1) ^ value;
+        }
+        sum
+    }),
     timed!("apply_to_chunks of 64 bytes", 4090, |library, list| {
         let bytes: Vec<u8> = list.iter().map(|&item| item as u8).collect();
         Box::new(move || {
@@ -94,6 +161,12 @@ pub const ITERATED: [Timed; 28] = [
             sum
         })
     }),
+    chunks!("apply_to_chunks of 64 bytes, called", 64, |list| list
+        .iter()
+        .map(|&item| item as u8)),
+    chunks!("apply_to_chunks of 512 bytes of integers, called", 512, |list| list
+        .iter()
+        .flat_map(|item| item.to_le_bytes())),
     timed!("iter_array_chunks_padded, 8 items", 4090, |library, list| {
         Box::new(move || {
             let chunks = library::iter_array_chunks_padded::<_, 8>(black_box(&list).iter().copied(), 0);
