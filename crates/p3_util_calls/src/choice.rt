@@ -17,8 +17,11 @@
 //! | 1 or 2 bytes | high, by blocks of 8 by 8 | a register holds one or two rows of such a block |
 //! | 4 or 8 bytes | high, by blocks of 4 by 4. On aarch64, by blocks of 8 by 8 | a register holds a row of 4, or half a row. See [`side_of`] |
 //! | 1 KiB and more | of 16 rows, column after column, each item by a function of its own | in a build without optimization, other functions would have copies of it on the stack |
-//! | 12 to 23 bytes: `FAR_ITEM`, `FAR_LIMIT`, in a list of more than 512 KiB: `FAR_LIST` | low, column after column | see [`is_read_far`] |
+//! | 12 to 23 bytes: `FAR_ITEM`, `FAR_LIMIT`, in a list of more than 512 KiB: `FAR_LIST` | low, column after column | see [`strips_of`] |
 //! | all others | low if 16 divides the width, otherwise high, column after column | see `Strips::by_width` |
+//!
+//! Strips of items of 12 bytes and more have at most 512 columns, [`FAR_COLUMNS`], if the list has more than 512 KiB. The cells of
+//! the next strip begin in the lines in which those of this one end, which are then still in the second-level cache.
 //!
 //! Lines are put on x86-64, and blocks where items are transposed in registers. Elsewhere these rows fit no matrix. Where each
 //! index is tested, [`row_blocks_of`] comes before the strips.
@@ -41,11 +44,14 @@ pub(crate) const SHORT_COLUMN: usize = 8;
 /// A list of more bytes and its transpose do not fit together in a cache of 1 MiB, which is of the second level.
 const FAR_LIST: usize = 1 << 19;
 
-/// The least number of bytes of an item that is read far.
+/// The least number of bytes of an item for which it matters that a list is far.
 const FAR_ITEM: usize = 12;
 
-/// An item of so many bytes is not read far: it takes less time by high strips.
+/// Far items of so many bytes and more take less time by high strips.
 const FAR_LIMIT: usize = 24;
+
+/// The greatest number of columns of a strip of far items.
+pub(crate) const FAR_COLUMNS: usize = 512;
 
 /// Where each index is tested, items of so many bytes are put one by one if their list has more than `ROWS_LONG_LIST` bytes.
 const ROWS_LONG_ITEM: usize = 16;
@@ -101,27 +107,30 @@ impl Limits {
     }
 }
 
-/// The strips of a matrix, and of the leaves of its parts. If they are put by squares, these have `SIDE` by `SIDE` items:
-/// `SIDE` is [`side_of`] these items. Others are low if `is_low` says so, or if the width does.
+/// The strips of a matrix of items of `size` bytes, and of the leaves of its parts. If they are put by squares, these have `SIDE`
+/// by `SIDE` items: `SIDE` is [`side_of`] these items. Others are low if the width says so, or if their list `is_far` and they
+/// are short. A strip is read column by column, so each of its rows is a stream of its own, and processors read ahead in few of
+/// them: in 32 at most. Longer items take less time by high strips, whose columns are longer runs of cells.
 #[inline(always)]
-pub(crate) fn strips_of<const SIDE: usize>(is_low: bool, width: usize) -> Strips<SIDE, HIGH_ROWS> {
+pub(crate) fn strips_of<const SIDE: usize>(
+    size: usize,
+    is_far: bool,
+    width: usize,
+) -> Strips<SIDE, HIGH_ROWS> {
     if SIDE > 1 {
         Strips::Squares
-    } else if is_low {
+    } else if is_far && size < FAR_LIMIT {
         Strips::Low
     } else {
         Strips::by_width(width)
     }
 }
 
-/// Whether a matrix of items of `size` bytes takes less time by low strips, whatever its width is, because its items come from
-/// beyond the second-level cache. A strip is read column by column, so each of its rows is a stream of its own, and processors
-/// read ahead in few of them: in 32 at most. Longer items take less time by high strips, whose columns are longer runs of cells.
-/// The list is in memory, so no product wraps.
+/// Whether a matrix of items of `size` bytes is *far*: its items are not short, and come from beyond the second-level cache. The
+/// list is in memory, so no product wraps.
 #[inline(always)]
-pub(crate) fn is_read_far(size: usize, width: usize, height: usize) -> bool {
-    let list = width.wrapping_mul(height).wrapping_mul(size);
-    (FAR_ITEM..FAR_LIMIT).contains(&size) && list > FAR_LIST
+pub(crate) fn is_far(size: usize, width: usize, height: usize) -> bool {
+    size >= FAR_ITEM && width.wrapping_mul(height).wrapping_mul(size) > FAR_LIST
 }
 
 /// Where each index is tested, a matrix is put by blocks of several rows instead of columns and strips. The holder tests each

@@ -5,12 +5,12 @@
 #[cfg(target_pointer_width = "32")]
 use crate::width::Index as usize;
 use crate::kernels::choice::{
-    LONG_BYTES, Limits, SHORT_COLUMN, few_items_of, has_lines, is_read_far, row_blocks_of, side_of,
-    strips_of,
+    FAR_COLUMNS, LONG_BYTES, Limits, SHORT_COLUMN, few_items_of, has_lines, is_far, row_blocks_of,
+    side_of, strips_of,
 };
 use crate::kernels::kernel::{
-    Blocks, Columns, InRows, LARGE_MATRIX, Matrix, Order, PutRegion, RowDigits, ShortColumns, UNIT,
-    put_as_block, reverse_short,
+    Blocks, Columns, InCols, InRows, LARGE_MATRIX, Matrix, Order, PutRegion, RowDigits,
+    ShortColumns, UNIT, put_as_block, reverse_short,
 };
 use crate::kernels::places::{Cells, Places, Source};
 use crate::kernels::transpose::Region;
@@ -258,12 +258,18 @@ fn put_region<M: Output, R: Source<Item = M::Item> + Copy>(
             return order_of(is_large, blocks).put(cells, matrix, region);
         }
     }
-    let is_low = !M::TESTS_INDICES && is_read_far(size, width, height);
+    let is_far = !M::TESTS_INDICES && is_far(size, width, height);
     // The side is a constant, so that an instance has no code for other squares.
     match M::SIDE {
-        4 => order_of(is_large, strips_of::<4>(is_low, width)).put(cells, matrix, region),
-        8 => order_of(is_large, strips_of::<8>(is_low, width)).put(cells, matrix, region),
-        _ => order_of(is_large, strips_of::<1>(is_low, width)).put(cells, matrix, region),
+        4 => order_of(is_large, strips_of::<4>(size, is_far, width)).put(cells, matrix, region),
+        8 => order_of(is_large, strips_of::<8>(size, is_far, width)).put(cells, matrix, region),
+        _ => {
+            let strips = strips_of::<1>(size, is_far, width);
+            if is_far && !is_large {
+                return InCols::<FAR_COLUMNS, _, _>(strips, strips).put(cells, matrix, region);
+            }
+            order_of(is_large, strips).put(cells, matrix, region)
+        }
     }
 }
 

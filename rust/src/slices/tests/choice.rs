@@ -4,7 +4,7 @@ use core::ops::Range;
 use std::vec::Vec;
 
 use super::{Noted, USES_REGISTERS, side_by_size, transposed};
-use crate::kernels::choice::{Limits, is_read_far, row_blocks_of, strips_of};
+use crate::kernels::choice::{Limits, is_far, row_blocks_of, strips_of};
 use crate::kernels::kernel::RowBlocks;
 use crate::kernels::places::SliceSource;
 use crate::kernels::transpose::{Matrix, PutRegion, Region, Strips, transpose_matrix};
@@ -29,16 +29,16 @@ fn strips() {
             .into_iter()
             .flat_map(of_sizes)
         {
-            let is_far = is_read_far(size, width, height);
-            assert_eq!(is_far, (12..24).contains(&size) && width * height * size > 524_288);
-            let is_low = width % 16 == 0 || is_far;
+            let is_far = is_far(size, width, height);
+            assert_eq!(is_far, size >= 12 && width * height * size > 524_288);
+            let is_low = width % 16 == 0 || is_far && size < 24;
             let by_blocks = USES_REGISTERS && matches!(size, 1 | 2 | 4 | 8);
             let strips = match side_by_size(size) {
-                4 => name(strips_of::<4>(is_far, width)),
-                8 => name(strips_of::<8>(is_far, width)),
+                4 => name(strips_of::<4>(size, is_far, width)),
+                8 => name(strips_of::<8>(size, is_far, width)),
                 side => {
                     assert_eq!(side, 1);
-                    name(strips_of::<1>(is_far, width))
+                    name(strips_of::<1>(size, is_far, width))
                 }
             };
             let wanted = match (by_blocks, is_low) {

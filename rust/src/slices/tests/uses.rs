@@ -8,8 +8,8 @@ use super::{SliceItems, USES_REGISTERS, near, side_by_size};
 use crate::kernels::calls::{Output, transpose_region, transpose_whole};
 #[cfg(feature = "checked")]
 use crate::kernels::choice::row_blocks_of;
-use crate::kernels::choice::{Limits, is_read_far, strips_of};
-use crate::kernels::kernel::{Blocks, Columns, InRows};
+use crate::kernels::choice::{FAR_COLUMNS, Limits, is_far, strips_of};
+use crate::kernels::kernel::{Blocks, Columns, InCols, InRows};
 use crate::kernels::places::{Block, Cells, SliceSource, Source};
 use crate::kernels::transpose::{Matrix, PutRegion, Region};
 
@@ -109,11 +109,17 @@ fn put_strips<'a, const N: usize>(
         return blocks.put(cells, matrix, region);
     }
     let Matrix { width, height, .. } = matrix;
-    let is_low = cfg!(not(feature = "checked")) && is_read_far(N, width, height);
+    let is_far = cfg!(not(feature = "checked")) && is_far(N, width, height);
     match side_by_size(N) {
-        4 => strips_of::<4>(is_low, width).put(cells, matrix, region),
-        8 => strips_of::<8>(is_low, width).put(cells, matrix, region),
-        _ => strips_of::<1>(is_low, width).put(cells, matrix, region),
+        4 => strips_of::<4>(N, is_far, width).put(cells, matrix, region),
+        8 => strips_of::<8>(N, is_far, width).put(cells, matrix, region),
+        _ => {
+            let strips = strips_of::<1>(N, is_far, width);
+            if is_far {
+                return InCols::<FAR_COLUMNS, _, _>(strips, strips).put(cells, matrix, region);
+            }
+            strips.put(cells, matrix, region)
+        }
     }
 }
 
@@ -158,6 +164,8 @@ fn check_whole<const N: usize>() {
         [40, 30],
         [150, 140],
         [300, 150],
+        [600, 100],
+        [1040, 50],
     ] {
         let [width, height] = sides;
         let wanted = match side_by_size(size) {
@@ -205,6 +213,24 @@ fn check_parts<const N: usize>() {
         let wanted = if has_lines { [Did::Lines].into() } else { by_leaves };
         assert!(put(64, region) == wanted, "{size} {rows:?} {cols:?}");
     }
+}
+
+/// The strips of far items have at most 512 columns. Those of other items have all of them.
+#[test]
+#[cfg_attr(feature = "checked", ignore = "no item is far")]
+fn columns_of_far_strips() {
+    let last_of_first_strip = |height| {
+        let did = told::<12>(1, [1040, height], |cells, matrix| {
+            transpose_whole(cells, matrix.source, 1040, height)
+        });
+        let places = did.iter().map(|it| match it {
+            Did::Put(cell) => (cell / height, cell % height),
+            _ => unreachable!("each item is put by itself"),
+        });
+        places.take_while(|&(_, row)| row < 24).last()
+    };
+    assert_eq!(last_of_first_strip(50), Some((511, 23)));
+    assert_eq!(last_of_first_strip(40), Some((1039, 23)));
 }
 
 /// Four rows are put in the first way, and the two that remain in the second.
