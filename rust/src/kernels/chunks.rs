@@ -40,20 +40,45 @@ where
         return;
     }
     let mut buf = [0; BUFLEN];
-    'chunks: loop {
-        let mut len = 0;
-        while len < BUFLEN {
-            let Some(byte) = iter.next() else {
-                if len > 0 {
-                    func(&buf.as_slice()[..len]);
-                }
-                break 'chunks;
-            };
-            buf[len] = byte;
-            len += 1;
+    loop {
+        let len = fill(&mut iter, &mut buf);
+        if len == 0 {
+            break;
         }
-        func(buf.as_slice());
+        func(&buf.as_slice()[..len]);
+        if len < BUFLEN {
+            break;
+        }
     }
+}
+
+/// Fills `buf` from its start with bytes of `iter`, and returns how many came. If there are fewer
+/// than `N`, `iter` has returned `None` after them.
+///
+/// # Contract
+///
+/// ```text
+/// requires can { I.can_next iter.old }
+/// requires finite { IsFinite (I.remaining iter.old) }
+/// ensures long { length buf.new ≡ N }
+/// ensures within { result ≤ N }
+/// ensures full { result ≡ N → Yields I.next_gives iter.old buf.new iter.new }
+/// ensures can { result ≡ N → I.can_next iter.new }
+/// ensures fewer { result ≡ N → IsFinite (I.remaining iter.new)
+///     × (size (I.remaining iter.new) + N ≤ size (I.remaining iter.old)) }
+/// ensures short { result < N
+///     → YieldsThen I.next_gives iter.old (take result buf.new) None iter.new }
+/// ```
+fn fill<const N: usize, I: Iterator<Item = u8>>(iter: &mut I, buf: &mut [u8; N]) -> usize {
+    let mut len = 0;
+    while len < N {
+        let Some(byte) = iter.next() else {
+            break;
+        };
+        buf[len] = byte;
+        len += 1;
+    }
+    len
 }
 
 /// Cuts the items of `iter` up to its first `None` into arrays of `N` items.

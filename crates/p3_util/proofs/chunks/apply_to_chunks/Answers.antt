@@ -1,42 +1,42 @@
--- The loops that fill the buffer, and the calls on all pieces: by the lemmas on `Cuts`.
+-- The calls on all pieces: by the lemmas on `Cuts`.
 use denote.Param.Always.{mut_next}
-use Rattle.std.proofs.Common.{ap, take, refl, arith, ◌<◌}
-use Rattle.std.proofs.lemmas.List.{length-replicate}
+use Rattle.std.proofs.Common.{◌≡◌, ap, ◌∙◌, length, take, refl, arith, ◌<◌}
+use Rattle.std.proofs.lemmas.List.{length-take-le, take_all}
 use Rattle.p3_util.proofs.PiecesLemmas.{joined-pieces}
-use Rattle.p3_util.proofs.WholePieces.{FoldsWhole-short, FoldsWhole-end, Cuts-start, Cuts-push, Cuts-flush, calls-whole}
-use Rattle.p3_util.proofs.chunks.apply_to_chunks.Goals.{then-len-gt0, else-len-gt0}
+use Rattle.p3_util.proofs.WholePieces.{folds-more, folds-all, Cuts-start, Cuts-more, calls-whole}
+use Rattle.p3_util.proofs.chunks.apply_to_chunks.Goals.{then-len-eq0, else-len-eq0+then-len}
 use Rattle.p3_util.proofs.chunks.apply_to_chunks.Goals as goal
 
-pub chunks-init : goal.chunks-init
-chunks-init g c =
+pub loop-buf-init : goal.loop-buf-init
+loop-buf-init g c =
     let some : 0 < g.row.BUFLEN = omega (arith, c.if-this-eq0.false) in
     let ends = c.requires.finite some c.into_iter-iter.result c.into_iter-iter.ensures.into_iter_gives in
-    (Cuts-start c.into_iter-iter.result _ c.into_iter-iter.ensures.into_iter_gives some (length-replicate _ _), c.requires.callable some, ends.0, ends.1)
+    (Cuts-start c.into_iter-iter.result c.into_iter-iter.ensures.into_iter_gives, c.requires.callable some, ends.0, ends.1)
 
-pub loop-len-preserved : goal.loop-len-preserved
-loop-len-preserved g c =
-    let h = c.loop-len.invariant in
-    (Cuts-push h.0 c.loop-len-test.true c.in-Some.ensures.steps, h.1, omega (arith, h.2, (c.in-Some.ensures.goes.on c.loop-len.iterator.1).2))
-
-pub chunks-preserved : goal.chunks-preserved
-chunks-preserved g c =
-    let some : 0 < g.row.BUFLEN = omega (arith, c.if-this-eq0.false) in (
-      Cuts-flush c.loop-len.invariant.0 some (omega (arith, c.loop-len-test.false)) (record { shown = c.as_slice-in-chunks.result; shows = c.as_slice-in-chunks.ensures; called = c.func-in-chunks.ensures }),
-      mut_next g.H.FnMut _ _ _ _ _ c.func-in-chunks.ensures refl c.loop-len.invariant.1,
-      c.loop-len.iterator.0,
-      c.loop-len.iterator.1,
+pub loop-buf-preserved : goal.loop-buf-preserved
+loop-buf-preserved g c =
+    let filled = c.fill-len.ensures in
+    let full : c.fill-len.result ≡ g.row.BUFLEN = omega (arith, filled.within, c.if-len.false) in
+    let all : take c.fill-len.result c.fill-len.new.buf ≡ c.fill-len.new.buf = take_all c.fill-len.result c.fill-len.new.buf (omega (arith, full, filled.long)) in (
+      Cuts-more c.loop-buf.invariant.0 (omega (arith, c.if-this-eq0.false)) filled.long (filled.full full) (record { shown = _; shows = ap (take c.fill-len.result) c.as_slice.ensures ∙ all; called = c.func.ensures }),
+      mut_next g.H.FnMut _ _ _ _ _ c.func.ensures refl c.loop-buf.invariant.1,
+      filled.can full,
+      (filled.fewer full).0,
     )
-
-pub chunks-smaller : goal.chunks-smaller
-chunks-smaller g c = omega (arith, c.loop-len.invariant.2, c.loop-len-test.false, c.if-this-eq0.false)
 
 pub returns-clause-runs : goal.returns-clause-runs
 returns-clause-runs g c some =
-    let h = c.loop-len.invariant.0 in
-    elim c.if-len-gt0.branch [
-      | then-len-gt0 w ↦ calls-whole g.H.FnMut _ h c.in_default.ensures.steps
-          (FoldsWhole-short h.folds w.if-len-gt0.true (record { shown = _; shows = ap (take c.loop-len.len) w.as_slice.ensures; called = w.func.ensures }))
-      | else-len-gt0 w ↦ calls-whole g.H.FnMut _ h c.in_default.ensures.steps (FoldsWhole-end h.folds (omega (arith, w.if-len-gt0.false)))
+    let h = c.loop-buf.invariant.0 in
+    let filled = c.fill-len.ensures in
+    let piece = take c.fill-len.result c.fill-len.new.buf in
+    elim c.if-len-eq0.branch [
+      | then-len-eq0 w ↦
+          let none : c.fill-len.result ≡ 0 = omega (arith, w.if-len-eq0.true) in
+          calls-whole g.H.FnMut piece _ h (filled.short (omega (arith, none, some))) (folds-all h piece (rw none refl))
+      | else-len-eq0+then-len w ↦
+          let long : length piece ≡ c.fill-len.result = length-take-le c.fill-len.result c.fill-len.new.buf (omega (arith, filled.within, filled.long)) in
+          calls-whole g.H.FnMut piece _ h (filled.short (omega (arith, w.if-len.true)))
+          (folds-more h piece (omega (arith, long, w.if-len-eq0.false)) (omega (arith, long, filled.within)) (record { shown = _; shows = ap (take c.fill-len.result) w.as_slice.ensures; called = w.func.ensures }))
     ]
 
 pub returns-clause-joined : goal.returns-clause-joined
