@@ -55,14 +55,14 @@ impl<T> Single<T> for () {}
 // SAFETY: a `SliceItems` is made from a `&mut [T]`, and may do to the items only what that reference may do.
 unsafe impl<T: Send> Send for SliceItems<'_, T> {}
 
-// SAFETY: a method that takes a `&SliceItems` reads the length and no item. With this bound the same parts are `Sync` as with
-// the feature `checked`.
+// SAFETY: a method that takes a `&SliceItems` writes nothing, and what it reads is `T`, which is `Sync`. So the same parts are
+// `Sync` as with the feature `checked`.
 unsafe impl<T: Sync> Sync for SliceItems<'_, T> {}
 
 impl<'a, T, D> SliceItems<'a, T, D> {
     /// The `len` items from `first` on. Whoever uses the holder has borrowed them.
     #[inline(always)]
-    pub(super) fn of(first: *mut T, len: usize) -> Self {
+    fn of(first: *mut T, len: usize) -> Self {
         let slice = PhantomData;
         SliceItems { first, len, slice }
     }
@@ -266,7 +266,7 @@ impl<T: Copy, D: Register<T>> Cells for SliceItems<'_, T, D> {
     #[cfg_attr(not(debug_assertions), inline(always))]
     fn put_block<R: Source<Item = T>>(&mut self, source: &R, block: Block) {
         let runs = source.as_slice().map(SliceItems::<T, D>::of_source);
-        put_in_squares_if_runs(self, runs, source, block);
+        put_in_squares_if_runs(self, runs.as_ref(), source, block);
     }
 }
 
@@ -285,11 +285,11 @@ impl<T: Copy, D: Register<T>> SquaresOfCells<T, D> for SliceItems<'_, T, D> {
             return;
         }
         // With `opt-level = "s"` a loop would not be unrolled, and with "z" a closure would not be inlined.
-        let (next, height) = (square.to + LINE / size, square.height);
+        let (next, height) = (square.to.wrapping_add(LINE / size), square.height);
         self.prefetch(next);
-        self.prefetch(next + height);
-        self.prefetch(next + 2 * height);
-        self.prefetch(next + 3 * height);
+        self.prefetch(next.wrapping_add(height));
+        self.prefetch(next.wrapping_add(height.wrapping_mul(2)));
+        self.prefetch(next.wrapping_add(height.wrapping_mul(3)));
     }
 }
 
@@ -335,7 +335,7 @@ impl<T: Copy, D: Register<T>> Cells for PastCaches<'_, T, D> {
     #[cfg_attr(not(debug_assertions), inline(always))]
     fn put_block<R: Source<Item = T>>(&mut self, source: &R, block: Block) {
         let runs = source.as_slice().map(SliceItems::<T, D>::of_source);
-        put_in_lines_if_runs(self, runs, source, block);
+        put_in_lines_if_runs(self, runs.as_ref(), source, block);
     }
 }
 
@@ -346,7 +346,7 @@ impl<T: Copy, D: Register<T>> LinesOfCells<T, D> for PastCaches<'_, T, D> {
     #[inline(always)]
     fn may_stream_lines(&self, block: Block) -> bool {
         let first = self.0.first.wrapping_add(block.to).addr();
-        let distance = block.height * size_of::<T>() * usize::from(block.cols > 1);
+        let distance = block.height.wrapping_mul(size_of::<T>()) * usize::from(block.cols > 1);
         4 * size_of::<D::Half>() == LINE && (first | distance) % LINE == 0
     }
 }

@@ -100,13 +100,13 @@ pub(crate) fn put_block_in_lines<
 pub(crate) fn put_in_squares_if_runs<
     T: Copy,
     D: Register<T>,
-    S: Runs<T, D> + Drop,
+    S: Runs<T, D>,
     R: Source<Item = T>,
     M: SquaresOfCells<T, D>,
->(cells: &mut M, runs: Option<S>, source: &R, block: Block)
-    requires same { IfSome runs (λ runs. S.items runs ≡ R.items source.now) }
+>(cells: &mut M, runs: Option<&S>, source: &R, block: Block)
+    requires same { IfSome runs (λ runs. S.items runs.now ≡ R.items source.now) }
     requires fits { BlockFits block (length (R.items source.now)) (length (M.Cells.items cells.old)) }
-    requires reads { IfSome runs (λ runs. (p : ℕ) → p + D.SIDE ≤ length (R.items source.now) → S.may (S.reach runs) p) }
+    requires reads { IfSome runs (λ runs. (p : ℕ) → p + D.SIDE ≤ length (R.items source.now) → S.may (S.reach runs.now) p) }
     requires writes { (c r : ℕ) → c < block.cols → r + D.SIDE ≤ block.rows
         → M.Runs.may (M.Runs.reach cells.old) (block.to + c * block.height + r) }
     ensures put { IsBlockPut (block_items block) block (R.items source.now)
@@ -114,7 +114,7 @@ pub(crate) fn put_in_squares_if_runs<
     ensures holder { M.Cells.same_holder (block_items block) cells.old cells.new }
 {
     match runs {
-        Some(runs) => put_block_in_squares(cells, &runs, source, block),
+        Some(runs) => put_block_in_squares(cells, runs, source, block),
         None => put_singly(cells, source, block),
     }
 }
@@ -125,19 +125,19 @@ pub(crate) fn put_in_squares_if_runs<
 pub(crate) fn put_in_lines_if_runs<
     T: Copy,
     D: Register<T>,
-    S: Runs<T, D> + Drop,
+    S: Runs<T, D>,
     R: Source<Item = T>,
     M: LinesOfCells<T, D>,
->(cells: &mut M, runs: Option<S>, source: &R, block: Block)
-    requires same { IfSome runs (λ runs. S.items runs ≡ R.items source.now) }
+>(cells: &mut M, runs: Option<&S>, source: &R, block: Block)
+    requires same { IfSome runs (λ runs. S.items runs.now ≡ R.items source.now) }
     requires fits { BlockFits block (length (R.items source.now)) (length (M.Cells.items cells.old)) }
-    requires reads { IfSome runs (λ runs. (p : ℕ) → p + D.SIDE ≤ length (R.items source.now) → S.may (S.reach runs) p) }
+    requires reads { IfSome runs (λ runs. (p : ℕ) → p + D.SIDE ≤ length (R.items source.now) → S.may (S.reach runs.now) p) }
     ensures put { IsBlockPut (block_items block) block (R.items source.now)
         (M.Cells.items cells.old) (M.Cells.items cells.new) }
     ensures holder { M.Cells.same_holder (block_items block) cells.old cells.new }
 {
     match runs {
-        Some(runs) => put_block_in_lines(cells, &runs, source, block),
+        Some(runs) => put_block_in_lines(cells, runs, source, block),
         None => put_singly(cells, source, block),
     }
 }

@@ -105,9 +105,9 @@ pub(crate) fn put_block_in_lines<
 /// # Contract
 ///
 /// ```text
-/// requires same { IfSome runs (λ runs. S.items runs ≡ R.items source.now) }
+/// requires same { IfSome runs (λ runs. S.items runs.now ≡ R.items source.now) }
 /// requires fits { BlockFits block (length (R.items source.now)) (length (M.Cells.items cells.old)) }
-/// requires reads { IfSome runs (λ runs. (p : ℕ) → p + D.SIDE ≤ length (R.items source.now) → S.may (S.reach runs) p) }
+/// requires reads { IfSome runs (λ runs. (p : ℕ) → p + D.SIDE ≤ length (R.items source.now) → S.may (S.reach runs.now) p) }
 /// requires writes { (c r : ℕ) → c < block.cols → r + D.SIDE ≤ block.rows
 ///     → M.Runs.may (M.Runs.reach cells.old) (block.to + c * block.height + r) }
 /// ensures put { IsBlockPut (block_items block) block (R.items source.now)
@@ -121,9 +121,9 @@ pub(crate) fn put_in_squares_if_runs<
     S: Runs<T, D>,
     R: Source<Item = T>,
     M: SquaresOfCells<T, D>,
->(cells: &mut M, runs: Option<S>, source: &R, block: Block) {
+>(cells: &mut M, runs: Option<&S>, source: &R, block: Block) {
     match runs {
-        Some(runs) => put_block_in_squares(cells, &runs, source, block),
+        Some(runs) => put_block_in_squares(cells, runs, source, block),
         None => put_singly(cells, source, block),
     }
 }
@@ -134,9 +134,9 @@ pub(crate) fn put_in_squares_if_runs<
 /// # Contract
 ///
 /// ```text
-/// requires same { IfSome runs (λ runs. S.items runs ≡ R.items source.now) }
+/// requires same { IfSome runs (λ runs. S.items runs.now ≡ R.items source.now) }
 /// requires fits { BlockFits block (length (R.items source.now)) (length (M.Cells.items cells.old)) }
-/// requires reads { IfSome runs (λ runs. (p : ℕ) → p + D.SIDE ≤ length (R.items source.now) → S.may (S.reach runs) p) }
+/// requires reads { IfSome runs (λ runs. (p : ℕ) → p + D.SIDE ≤ length (R.items source.now) → S.may (S.reach runs.now) p) }
 /// ensures put { IsBlockPut (block_items block) block (R.items source.now)
 ///     (M.Cells.items cells.old) (M.Cells.items cells.new) }
 /// ensures holder { M.Cells.same_holder (block_items block) cells.old cells.new }
@@ -148,9 +148,9 @@ pub(crate) fn put_in_lines_if_runs<
     S: Runs<T, D>,
     R: Source<Item = T>,
     M: LinesOfCells<T, D>,
->(cells: &mut M, runs: Option<S>, source: &R, block: Block) {
+>(cells: &mut M, runs: Option<&S>, source: &R, block: Block) {
     match runs {
-        Some(runs) => put_block_in_lines(cells, &runs, source, block),
+        Some(runs) => put_block_in_lines(cells, runs, source, block),
         None => put_singly(cells, source, block),
     }
 }
