@@ -31,7 +31,7 @@ fn strips() {
         {
             let is_far = is_far(size, width, height);
             assert_eq!(is_far, size >= 12 && width * height * size > 524_288);
-            let is_low = width % 16 == 0 || is_far && size < 24;
+            let is_low = width % 16 == 0 || is_far && size < 24 && size != 16;
             let by_blocks = USES_REGISTERS && matches!(size, 1 | 2 | 4 | 8);
             let strips = match side_by_size(size) {
                 4 => name(strips_of::<4>(size, is_far, width)),
