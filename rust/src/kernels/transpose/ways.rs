@@ -334,12 +334,9 @@ fn put_items<M: Cells, R: Source<Item = M::Item> + Copy>(
     rows: usize,
 ) -> M {
     let mut out = out;
-    let mut place = from;
     let mut t = 0;
     while t < rows {
-        out.put(to + t, matrix.source.at(place));
-        // After the last item the sum is not used, and may wrap. With overflow checks, a product is tested for each item.
-        place = place.wrapping_add(matrix.width);
+        out.put(to + t, matrix.source.at(from + t * matrix.width));
         t += 1;
     }
     out

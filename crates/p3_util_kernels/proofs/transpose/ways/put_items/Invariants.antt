@@ -1,14 +1,13 @@
-use Rattle.std.proofs.Common.{◌≡◌, ◌+◌, ◌-◌, ◌*◌, ◌<◌, ◌≤◌}
+use Rattle.std.proofs.Common.{◌-◌, ◌≤◌}
 use Rattle.p3_util_kernels.specs.Columns.{IsColumnPut}
 use Rattle.p3_util_kernels.proofs.transpose.ways.put_items.Given as goal
 
--- the first t items of the column are put, and if there is one more, it is at the place
+-- the first t items of the column are put
 abbrev pub invariant-loop-t : goal.invariant-loop-t
 invariant-loop-t g l = record {
   put : IsColumnPut l.t l.from l.matrix.width l.to (g.R.Source.items l.matrix.source) (g.M.Cells.items l.fn.out) (g.M.Cells.items l.out);
   holder : g.M.Cells.same_holder l.t l.fn.out l.out;
   to : l.t ≤ l.rows;
-  place : l.t < l.rows → l.place ≡ l.from + l.t * l.matrix.width;
 }
 
 abbrev pub decreases-loop-t : goal.decreases-loop-t
