@@ -18,9 +18,6 @@ pub mod proved;
 /// # Panics
 ///
 /// If `n` is not a power of two.
-///
-/// # Contract
-#[doc = include_str!("kernels/contracts/log2_strict_usize.txt")]
 #[inline]
 #[must_use]
 #[track_caller]
@@ -39,9 +36,6 @@ pub const fn log2_strict_usize(n: usize) -> usize {
 /// # Panics
 ///
 /// If `n` is not a power of three.
-///
-/// # Contract
-#[doc = include_str!("kernels/contracts/log3_strict_usize.txt")]
 #[inline]
 #[must_use]
 #[track_caller]
@@ -63,9 +57,6 @@ pub const fn log3_strict_usize(n: usize) -> usize {
 /// # Panics
 ///
 /// With debug assertions, if `n` is not a power of two. Without them, the lowest set digit of `n` is used.
-///
-/// # Contract
-#[doc = include_str!("kernels/contracts/reverse_bits.txt")]
 #[inline(always)]
 #[track_caller]
 pub const fn reverse_bits(x: usize, n: usize) -> usize {
@@ -82,9 +73,6 @@ pub const fn reverse_bits(x: usize, n: usize) -> usize {
 /// # Panics
 ///
 /// With debug assertions, if `bit_len` is above `usize::BITS`. Without them, the remainder by that is used.
-///
-/// # Contract
-#[doc = include_str!("kernels/contracts/reverse_bits_len.txt")]
 #[inline(always)]
 #[track_caller]
 pub const fn reverse_bits_len(x: usize, bit_len: usize) -> usize {

@@ -17,7 +17,7 @@
 //!
 //! If a function needs a condition, such as a length that is a power of two, it checks that condition and panics if it
 //! does not hold. [`reverse_bits`] and [`reverse_bits_len`] check theirs only with debug assertions. Then proved code
-//! does the work: [`kernels`] has it, with its contracts, and also takes lists of your own.
+//! does the work: [`kernels`] has it, and also takes lists of your own.
 //!
 //! The crate is `no_std` with `alloc` and starts no thread. With the feature `checked`, which is off by default, the
 //! kernels check each index of a slice, and the crate has no unsafe code. Results are the same. If one crate of a
@@ -38,7 +38,7 @@ use alloc::string::String;
 use core::any::type_name;
 
 mod bits;
-/// The proved code, with its contracts as documentation: [`contracts`](kernels::contracts) says how to read one.
+/// The proved code. The contracts are in docs/contracts.txt of the repository and of a release.
 ///
 /// Here a reversal or a transpose also takes a list of your own, by a *holder*: a value that gives access to a list by
 /// index. Calls that count tell you how many swaps or writes they make, and their contracts give the exact number.

@@ -60,9 +60,6 @@ fn reverse_rows(items: impl Places, row_width: Index) {
 /// ```should_panic
 /// p3_util_proved::reverse_slice_index_bits(&mut [0, 1, 2, 3, 4, 5]);
 /// ```
-///
-/// # Contract of the kernel
-#[doc = include_str!("kernels/contracts/reverse_slice_index_bits.txt")]
 #[doc(alias = "reverse")]
 #[inline]
 #[track_caller]
@@ -88,9 +85,6 @@ pub fn reverse_slice_index_bits<F: Send + Sync>(vals: &mut [F]) {
 /// # Panics
 ///
 /// If the length is not `row_width` times zero or a power of two. With a `row_width` of 0 the length must be 0.
-///
-/// # Contract of the kernel
-#[doc = include_str!("kernels/contracts/reverse_slice_row_index_bits.txt")]
 #[doc(alias = "reverse")]
 #[inline]
 #[track_caller]
@@ -125,9 +119,6 @@ pub fn reverse_slice_row_index_bits<F>(vals: &mut [F], row_width: usize) {
 /// // The output has room for five items.
 /// p3_util_proved::transpose::transpose(&[1, 2, 3, 4, 5, 6], &mut [0; 5], 3, 2);
 /// ```
-///
-/// # Contract of the kernel
-#[doc = include_str!("kernels/contracts/transpose.txt")]
 #[inline]
 #[track_caller]
 pub fn transpose<T: Copy + Send + Sync>(input: &[T], output: &mut [T], width: usize, height: usize) {

@@ -70,19 +70,6 @@ const EXPONENTS_OF_THREE: [u8; 64] = [
 /// assert_eq!(p3_util_proved::log2_ceil_usize(8), 3);
 /// assert_eq!(p3_util_proved::log2_ceil_usize(9), 4);
 /// ```
-///
-/// # Contract
-///
-/// [`contracts`](crate::kernels::contracts) explains how to read this contract.
-///
-/// ```text
-/// ensures enough { n ≤ 2 ^ result }
-/// ensures least { (e : ℕ) → n ≤ 2 ^ e → result ≤ e }
-/// ensures near { 0 < n → 2 ^ result < 2 * n }
-/// ensures tight { 1 < n → 2 ^ (result - 1) < n }
-/// ensures counted { result ≡ clog n }
-/// ensures bound { result ≤ 64 }
-/// ```
 #[inline(always)]
 #[must_use]
 pub const fn log2_ceil_usize(n: usize) -> usize {
@@ -96,18 +83,6 @@ pub const fn log2_ceil_usize(n: usize) -> usize {
 /// assert_eq!(p3_util_proved::log2_floor_usize(7), 2);
 /// assert_eq!(p3_util_proved::log2_floor_usize(8), 3);
 /// ```
-///
-/// # Contract
-///
-/// [`contracts`](crate::kernels::contracts) explains how to read this contract.
-///
-/// ```text
-/// ensures zero { n ≡ 0 → result ≡ 0 }
-/// ensures within { 0 < n → 2 ^ result ≤ n }
-/// ensures greatest { (e : ℕ) → 2 ^ e ≤ n → e ≤ result }
-/// ensures below { 0 < n → n < 2 ^ (result + 1) }
-/// ensures bound { result < 64 }
-/// ```
 #[inline(always)]
 #[must_use]
 pub const fn log2_floor_usize(n: usize) -> usize {
@@ -120,18 +95,6 @@ pub const fn log2_floor_usize(n: usize) -> usize {
 /// assert_eq!(p3_util_proved::log2_ceil_u64(8), 3);
 /// assert_eq!(p3_util_proved::log2_ceil_u64(9), 4);
 /// ```
-///
-/// # Contract
-///
-/// [`contracts`](crate::kernels::contracts) explains how to read this contract.
-///
-/// ```text
-/// ensures enough { n ≤ 2 ^ result }
-/// ensures least { (e : ℕ) → n ≤ 2 ^ e → result ≤ e }
-/// ensures near { 0 < n → 2 ^ result < 2 * n }
-/// ensures tight { 1 < n → 2 ^ (result - 1) < n }
-/// ensures bound { result ≤ 64 }
-/// ```
 #[inline]
 #[must_use]
 pub const fn log2_ceil_u64(n: u64) -> u64 {
@@ -139,13 +102,6 @@ pub const fn log2_ceil_u64(n: u64) -> u64 {
 }
 
 /// 2 to the power of `exponent`.
-///
-/// # Contract
-///
-/// ```text
-/// requires { exponent < 64 }
-/// ensures { result ≡ 2 ^ exponent }
-/// ```
 #[inline(always)]
 pub(crate) const fn pow2(exponent: usize) -> usize {
     1 << exponent
@@ -156,14 +112,6 @@ pub(crate) const fn pow2(exponent: usize) -> usize {
 /// ```
 /// assert_eq!(p3_util_proved::checked_pow2(5), Some(32));
 /// assert_eq!(p3_util_proved::checked_pow2(64), None);
-/// ```
-///
-/// # Contract
-///
-/// [`contracts`](crate::kernels::contracts) explains how to read this contract.
-///
-/// ```text
-/// ensures { SomeIff result (log_degree < 64) (2 ^ log_degree) }
 /// ```
 #[inline]
 #[must_use]
@@ -181,14 +129,6 @@ pub const fn checked_pow2(log_degree: usize) -> Option<usize> {
 /// assert_eq!(p3_util_proved::checked_log_size_sum(2, 3), Some((5, 32)));
 /// assert_eq!(p3_util_proved::checked_log_size_sum(32, 32), None);
 /// ```
-///
-/// # Contract
-///
-/// [`contracts`](crate::kernels::contracts) explains how to read this contract.
-///
-/// ```text
-/// ensures { SomeIff result (a + b < 64) (a + b, 2 ^ (a + b)) }
-/// ```
 #[inline]
 #[must_use]
 pub const fn checked_log_size_sum(a: usize, b: usize) -> Option<(usize, usize)> {
@@ -202,17 +142,6 @@ pub const fn checked_log_size_sum(a: usize, b: usize) -> Option<(usize, usize)> 
 
 /// The logarithm to base 2 of `n`, which must be a power of two. This call does not check that, and
 /// std's `is_power_of_two` does.
-///
-/// # Contract
-///
-/// [`contracts`](crate::kernels::contracts) explains how to read this contract.
-///
-/// ```text
-/// requires { HasLog2 n }
-/// ensures power { n ≡ 2 ^ result }
-/// ensures counted { result ≡ clog n }
-/// ensures bound { result < 64 }
-/// ```
 #[inline]
 pub(crate) const fn log2_strict_usize(n: usize) -> usize {
     n.trailing_zeros() as usize
@@ -220,17 +149,6 @@ pub(crate) const fn log2_strict_usize(n: usize) -> usize {
 
 /// The logarithm to base 3 of `n`, which must be a power of three. This call does not check that,
 /// and [`is_power_of_three`] does.
-///
-/// # Contract
-///
-/// [`contracts`](crate::kernels::contracts) explains how to read this contract.
-///
-/// ```text
-/// requires { HasLog3 n }
-/// ensures power { n ≡ 3 ^ result }
-/// ensures only { (e : ℕ) → n ≡ 3 ^ e → result ≡ e }
-/// ensures bound { result < 41 }
-/// ```
 #[inline]
 pub(crate) const fn log3_strict_usize(n: usize) -> usize {
     let top = n.ilog2();
@@ -238,14 +156,6 @@ pub(crate) const fn log3_strict_usize(n: usize) -> usize {
 }
 
 /// Whether `n` is `3^e` for some `e`.
-///
-/// # Contract
-///
-/// [`contracts`](crate::kernels::contracts) explains how to read this contract.
-///
-/// ```text
-/// ensures { IsTrue result ↔ IsPowerOfThree n }
-/// ```
 #[inline]
 pub const fn is_power_of_three(n: usize) -> bool {
     n != 0 && powers_of_three()[(exponent_of_three(n.ilog2() as usize)) as core::primitive::usize] == n
@@ -253,29 +163,12 @@ pub const fn is_power_of_three(n: usize) -> bool {
 
 /// The table of all powers of three that fit in a `usize`. The highest set bits of any two of them
 /// are at different positions.
-///
-/// # Contract
-///
-/// ```text
-/// ensures powers { (e : ℕ) → e < 41 → slice_index result.now e ≡ 3 ^ e }
-/// ensures all { (e : ℕ) → 3 ^ e < 2 ^ 64 ↔ e < 41 }
-/// ensures apart { (d e top : ℕ) → 2 ^ top ≤ 3 ^ d → 3 ^ d < 2 ^ (top + 1)
-///     → 2 ^ top ≤ 3 ^ e → 3 ^ e < 2 ^ (top + 1) → d ≡ e }
-/// ```
 #[inline]
 const fn powers_of_three() -> &'static [usize; 41] {
     &POWERS_OF_THREE
 }
 
 /// The exponent of the power of three whose highest set bit is bit `top`, if there is such a power.
-///
-/// # Contract
-///
-/// ```text
-/// requires { top < 64 }
-/// ensures found { (e : ℕ) → 2 ^ top ≤ 3 ^ e → 3 ^ e < 2 ^ (top + 1) → result ≡ e }
-/// ensures bound { result < 41 }
-/// ```
 #[inline]
 const fn exponent_of_three(top: usize) -> usize {
     let exponents = &EXPONENTS_OF_THREE;
@@ -286,15 +179,6 @@ const fn exponent_of_three(top: usize) -> usize {
 ///
 /// ```
 /// assert_eq!(p3_util_proved::indices_arr::<4>(), [0, 1, 2, 3]);
-/// ```
-///
-/// # Contract
-///
-/// [`contracts`](crate::kernels::contracts) explains how to read this contract.
-///
-/// ```text
-/// ensures len { length result ≡ N }
-/// ensures places { (i : ℕ) → i < N → slice_index result i ≡ i }
 /// ```
 #[inline]
 #[must_use]

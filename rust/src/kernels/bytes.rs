@@ -23,14 +23,6 @@ pub(crate) const fn is_run(size: usize, moves_bytes: bool) -> bool {
 /// How many bytes a place has in a reversal of rows of `row` bytes each. If there is an instance for this size, a row is a place.
 /// Otherwise an item is one if a row has only this item and the item is not long. All other rows are runs of bytes. If items are
 /// not taken as bytes, each is a place.
-///
-/// # Contract
-///
-/// ```text
-/// requires { (width : ℕ) × (row ≡ width * size) }
-/// ensures some { 0 < result }
-/// ensures whole { row % result ≡ 0 }
-/// ```
 fn bytes_of_place<I: Instances>(size: usize, row: usize) -> usize {
     if row == 0 {
         1
@@ -45,17 +37,6 @@ fn bytes_of_place<I: Instances>(size: usize, row: usize) -> usize {
 
 /// How many bytes a place has in the reversal of a list of `len` items of `size` bytes, `row_width` in each row, and the plan for
 /// the list of these places.
-///
-/// # Contract
-///
-/// ```text
-/// requires rows { FitsRows len row_width }
-/// requires fits { len * size < 2 ^ 64 }
-/// ensures some { 0 < result.0 }
-/// ensures all { len * size / result.0 * result.0 ≡ len * size }
-/// ensures plan { IsReversalPlan (len * size / result.0) result.1 }
-/// ensures width { 0 < len * size → width_of result.1 * result.0 ≡ row_width * size }
-/// ```
 pub(crate) fn plan_in_bytes<I: Instances>(
     len: usize,
     size: usize,
@@ -76,47 +57,16 @@ pub(crate) trait ByteInstances: Sized {
     type Done;
 
     /// Reverses rows of `row` bytes each if there is an instance for places of this size. Otherwise the list is returned.
-    ///
-    /// # Contract
-    ///
-    /// ```text
-    /// requires { FitsRows (len self) row }
-    /// ensures done { IfOk result (λ done. reversed row self done) }
-    /// ensures left { IfErr result (λ list. list ≡ self) }
-    /// ```
     fn reverse_places(self, row: usize) -> Result<Self::Done, Self>;
 
     /// Reverses rows of `row` bytes each as runs of bytes.
-    ///
-    /// # Contract
-    ///
-    /// ```text
-    /// requires { FitsRows (len self) row }
-    /// ensures { reversed row self result }
-    /// ```
     fn reverse_runs(self, row: usize) -> Self::Done;
 
     /// Exchanges the pairs of a patch, in the list of places of `place` bytes each.
-    ///
-    /// # Contract
-    ///
-    /// ```text
-    /// requires some { 0 < place }
-    /// requires all { len self / place * place ≡ len self }
-    /// requires plan { IsReversalPlan (len self / place) (Patches patch.plan) }
-    /// ensures { exchanged place patch.plan patch.number self result }
-    /// ```
     fn exchange(self, place: usize, patch: Part<RowPairs>) -> Self::Done;
 }
 
 /// Reverses the order of rows of `row` bytes each by index bits.
-///
-/// # Contract
-///
-/// ```text
-/// requires { FitsRows (I.len list) row }
-/// ensures { I.reversed row list result }
-/// ```
 #[inline(always)]
 pub(crate) fn reverse_rows<I: ByteInstances>(list: I, row: usize) -> I::Done {
     match list.reverse_places(row) {
@@ -126,17 +76,6 @@ pub(crate) fn reverse_rows<I: ByteInstances>(list: I, row: usize) -> I::Done {
 }
 
 /// Makes the exchanges of a part, in the list of places of `place` bytes each.
-///
-/// # Contract
-///
-/// ```text
-/// requires some { 0 < place }
-/// requires all { I.len list / place * place ≡ I.len list }
-/// requires plan { IsReversalPlan (I.len list / place) part.plan }
-/// requires len_fits { I.len list < 2 ^ 64 }
-/// ensures whole { (len width : ℕ) → part.plan ≡ Whole len width → I.reversed (width * place) list result }
-/// ensures patch { (pairs : RowPairs) → part.plan ≡ Patches pairs → I.exchanged place pairs part.number list result }
-/// ```
 #[inline(always)]
 pub(crate) fn reverse_part<I: ByteInstances>(
     list: I,

@@ -57,28 +57,11 @@ pub(crate) trait Output: Cells {
     }
 
     /// Puts all items of a list of the same length, in the same order.
-    ///
-    /// # Contract
-    ///
-    /// ```text
-    /// requires { length (R.items source) ≡ length (Self.items self) }
-    /// ensures copied { Self.items result ≡ R.items source }
-    /// ensures holder { Self.same_holder (length (Self.items self)) self result }
-    /// ```
     fn copy<R: Source<Item = Self::Item> + Copy>(self, source: R) -> Self
     where
         Self: Sized,;
 
     /// Puts a region in this way. The holder may store whole lines past the caches until it returns.
-    ///
-    /// # Contract
-    ///
-    /// ```text
-    /// requires { IsReady region matrix.width matrix.height (R.items matrix.source) (Self.items self) }
-    /// ensures transposed { IsRegionTransposed region matrix.width matrix.height
-    ///     (R.items matrix.source) (Self.items self) (Self.items result) }
-    /// ensures holder { Self.same_holder (items_of region) self result }
-    /// ```
     fn put_past_caches<W: PutRegion, R: Source<Item = Self::Item> + Copy>(
         self,
         way: W,
@@ -94,15 +77,6 @@ pub(crate) trait Output: Cells {
 
 /// Transposes a matrix. A user's crate has this, and without debug assertions puts columns itself, since a call would take as
 /// long. The calls have single arguments and no matrix, so that all are in registers and need no room on the stack.
-///
-/// # Contract
-///
-/// ```text
-/// requires input_fits { length (R.items source) ≡ width * height }
-/// requires output_fits { length (M.items cells) ≡ width * height }
-/// ensures order { IsTranspose width height (R.items source) (M.items result) }
-/// ensures holder { M.same_holder (width * height) cells result }
-/// ```
 #[inline(always)]
 pub(crate) fn transpose_whole<M: Output, R: Source<Item = M::Item> + Copy>(
     cells: M,
@@ -133,16 +107,6 @@ pub(crate) fn transpose_whole<M: Output, R: Source<Item = M::Item> + Copy>(
 }
 
 /// Transposes a matrix of few items.
-///
-/// # Contract
-///
-/// ```text
-/// requires input_fits { length (R.items source) ≡ width * height }
-/// requires output_fits { length (M.items cells) ≡ width * height }
-/// requires len_fits { length (R.items source) < 2 ^ 64 }
-/// ensures order { IsTranspose width height (R.items source) (M.items result) }
-/// ensures holder { M.same_holder (width * height) cells result }
-/// ```
 #[inline(always)]
 fn transpose_tiny<M: Output, R: Source<Item = M::Item> + Copy>(
     cells: M,
@@ -162,16 +126,6 @@ fn transpose_tiny<M: Output, R: Source<Item = M::Item> + Copy>(
 }
 
 /// Does the same as [`transpose_tiny`]. With debug assertions, a user's crate is often not optimized, and the package may be.
-///
-/// # Contract
-///
-/// ```text
-/// requires input_fits { length (R.items source) ≡ width * height }
-/// requires output_fits { length (M.items cells) ≡ width * height }
-/// requires len_fits { length (R.items source) < 2 ^ 64 }
-/// ensures order { IsTranspose width height (R.items source) (M.items result) }
-/// ensures holder { M.same_holder (width * height) cells result }
-/// ```
 #[inline(never)]
 fn transpose_tiny_apart<M: Output, R: Source<Item = M::Item> + Copy>(
     cells: M,
@@ -183,17 +137,6 @@ fn transpose_tiny_apart<M: Output, R: Source<Item = M::Item> + Copy>(
 }
 
 /// Transposes a matrix of one block, in the holder's own way. The side is a constant, and with it the distance of its rows.
-///
-/// # Contract
-///
-/// ```text
-/// requires some { 0 < SIDE }
-/// requires input_fits { length (R.items source) ≡ SIDE * SIDE }
-/// requires output_fits { length (M.items cells) ≡ SIDE * SIDE }
-/// requires len_fits { length (R.items source) < 2 ^ 64 }
-/// ensures order { IsTranspose SIDE SIDE (R.items source) (M.items result) }
-/// ensures holder { M.same_holder (SIDE * SIDE) cells result }
-/// ```
 #[inline(never)]
 fn transpose_block<const SIDE: usize, M: Output, R: Source<Item = M::Item> + Copy>(
     cells: M,
@@ -205,15 +148,6 @@ fn transpose_block<const SIDE: usize, M: Output, R: Source<Item = M::Item> + Cop
 }
 
 /// Transposes a matrix that is neither copied nor one block, and has many items or long ones.
-///
-/// # Contract
-///
-/// ```text
-/// requires input_fits { length (R.items source) ≡ width * height }
-/// requires output_fits { length (M.items cells) ≡ width * height }
-/// ensures order { IsTranspose width height (R.items source) (M.items result) }
-/// ensures holder { M.same_holder (width * height) cells result }
-/// ```
 #[inline(never)]
 fn transpose_apart<M: Output, R: Source<Item = M::Item> + Copy>(
     cells: M,
@@ -228,15 +162,6 @@ fn transpose_apart<M: Output, R: Source<Item = M::Item> + Copy>(
 }
 
 /// Puts a region of a matrix. If it `is_large`, it is put by lines or by leaves.
-///
-/// # Contract
-///
-/// ```text
-/// requires { IsReady region matrix.width matrix.height (R.items matrix.source) (M.items cells) }
-/// ensures transposed { IsRegionTransposed region matrix.width matrix.height
-///     (R.items matrix.source) (M.items cells) (M.items result) }
-/// ensures holder { M.same_holder (items_of region) cells result }
-/// ```
 #[inline(always)]
 fn put_region<M: Output, R: Source<Item = M::Item> + Copy>(
     cells: M,
@@ -284,15 +209,6 @@ fn order_of<S: PutRegion>(is_large: bool, strips: S) -> Order<S> {
 }
 
 /// Puts a region by cache lines of the output, past the caches.
-///
-/// # Contract
-///
-/// ```text
-/// requires { IsReady region matrix.width matrix.height (R.items matrix.source) (M.items cells) }
-/// ensures transposed { IsRegionTransposed region matrix.width matrix.height
-///     (R.items matrix.source) (M.items cells) (M.items result) }
-/// ensures holder { M.same_holder (items_of region) cells result }
-/// ```
 #[inline(never)]
 fn put_by_lines<M: Output, R: Source<Item = M::Item> + Copy>(
     cells: M,
@@ -336,15 +252,6 @@ impl PutRegion for LongColumns {
 }
 
 /// Puts a column of `rows` items into consecutive cells from `to` on. The column begins at index `from` of the source.
-///
-/// # Contract
-///
-/// ```text
-/// requires column { HoldsColumn rows from matrix.width to (R.items matrix.source) (M.items out) }
-/// ensures put { IsColumnPut rows from matrix.width to (R.items matrix.source) (M.items out)
-///     (M.items result) }
-/// ensures holder { M.same_holder rows out result }
-/// ```
 fn put_long_column<M: Cells, R: Source<Item = M::Item> + Copy>(
     out: M,
     matrix: Matrix<R>,
@@ -362,17 +269,6 @@ fn put_long_column<M: Cells, R: Source<Item = M::Item> + Copy>(
 }
 
 /// Puts the item at index `from` of a source into cell `to`.
-///
-/// # Contract
-///
-/// ```text
-/// requires from { from < length (R.items source) }
-/// requires to { to < length (M.items out.old) }
-/// ensures same_length { length (M.items out.new) ≡ length (M.items out.old) }
-/// ensures put { slice_get (M.items out.new) to ≡ slice_get (R.items source) from }
-/// ensures others { (p : ℕ) → p ≢ to → slice_get (M.items out.new) p ≡ slice_get (M.items out.old) p }
-/// ensures holder { M.same_holder 1 out.old out.new }
-/// ```
 #[inline(never)]
 fn put_item<M: Cells, R: Source<Item = M::Item> + Copy>(
     out: &mut M,
@@ -384,15 +280,6 @@ fn put_item<M: Cells, R: Source<Item = M::Item> + Copy>(
 }
 
 /// Puts a region of a matrix. One that is the whole matrix is put as a whole call.
-///
-/// # Contract
-///
-/// ```text
-/// requires { IsReady region matrix.width matrix.height (R.items matrix.source) (M.items cells) }
-/// ensures transposed { IsRegionTransposed region matrix.width matrix.height
-///     (R.items matrix.source) (M.items cells) (M.items result) }
-/// ensures holder { M.same_holder (items_of region) cells result }
-/// ```
 #[inline(always)]
 pub(crate) fn transpose_region<M: Output, R: Source<Item = M::Item> + Copy>(
     cells: M,
@@ -407,28 +294,12 @@ pub(crate) fn transpose_region<M: Output, R: Source<Item = M::Item> + Copy>(
 }
 
 /// Reverses the order of items by index bits.
-///
-/// # Contract
-///
-/// ```text
-/// requires { IsReversible (length (M.items items)) }
-/// ensures order { IsReversal (M.items items) (M.items result) }
-/// ensures holder { M.same_holder (short_swaps (clog (length (M.items items)))) items result }
-/// ```
 #[inline(always)]
 pub(crate) fn reverse<M: Places>(items: M) -> M {
     reverse_short(items)
 }
 
 /// Reverses the order of rows of `row_width` items by index bits.
-///
-/// # Contract
-///
-/// ```text
-/// requires { FitsRows (length (M.items items)) row_width }
-/// ensures order { IsRowReversal row_width (M.items items) (M.items result) }
-/// ensures holder { M.same_holder (row_swaps (length (M.items items)) row_width) items result }
-/// ```
 #[inline(always)]
 pub(crate) fn reverse_rows<M: Places>(items: M, row_width: usize) -> M {
     let rows = RowDigits::of(items.len(), row_width);

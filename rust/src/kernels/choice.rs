@@ -89,12 +89,6 @@ impl Limits {
 
     /// Whether a region of a matrix of items of `size` bytes is put by lines. `at` is the address of the first cell of the
     /// output. The list is in memory, so no product wraps.
-    ///
-    /// # Contract
-    ///
-    /// ```text
-    /// requires { LiesInMatrix region matrix.width matrix.height }
-    /// ```
     #[inline(always)]
     pub(crate) fn fit<R: Copy>(
         self,

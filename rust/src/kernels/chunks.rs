@@ -16,20 +16,6 @@ use core::iter::FusedIterator;
 /// p3_util_proved::apply_to_chunks::<4, _, _>(*b"chunks", |chunk| lengths.push(chunk.len()));
 /// assert_eq!(lengths, [4, 2]);
 /// ```
-///
-/// # Contract
-///
-/// [`contracts`](crate::kernels::contracts) explains how to read this contract.
-///
-/// ```text
-/// requires fits { BUFLEN < 2 ^ 63 }
-/// requires finite { 0 < BUFLEN
-///     → IsFiniteIterable I.into_iter_gives I.IntoIter.can_next I.IntoIter.remaining input }
-/// requires callable { 0 < BUFLEN → H.IsAlwaysCallable func }
-/// ensures runs { 0 < BUFLEN → (it : I.IntoIter) × I.into_iter_gives input it
-///     × WholeRun I.IntoIter.next_gives it (λ p. CallsOnPieces H.FnMut BUFLEN func p.items) }
-/// ensures joined { 0 < BUFLEN → (items : List ℕ) → flat (pieces BUFLEN items) ≡ items }
-/// ```
 pub fn apply_to_chunks<const BUFLEN: usize, I, H>(input: I, mut func: H)
 where
     I: IntoIterator<Item = u8>,
@@ -54,21 +40,6 @@ where
 
 /// Fills `buf` from its start with bytes of `iter`, and returns how many came. If there are fewer
 /// than `N`, `iter` has returned `None` after them.
-///
-/// # Contract
-///
-/// ```text
-/// requires can { I.can_next iter.old }
-/// requires finite { IsFinite (I.remaining iter.old) }
-/// ensures long { length buf.new ≡ N }
-/// ensures within { result ≤ N }
-/// ensures full { result ≡ N → Yields I.next_gives iter.old buf.new iter.new }
-/// ensures can { result ≡ N → I.can_next iter.new }
-/// ensures fewer { result ≡ N → IsFinite (I.remaining iter.new)
-///     × (size (I.remaining iter.new) + N ≤ size (I.remaining iter.old)) }
-/// ensures short { result < N
-///     → YieldsThen I.next_gives iter.old (take result buf.new) None iter.new }
-/// ```
 fn fill<const N: usize, I: Iterator<Item = u8>>(iter: &mut I, buf: &mut [u8; N]) -> usize {
     let mut len = 0;
     while len < N {
@@ -87,18 +58,6 @@ fn fill<const N: usize, I: Iterator<Item = u8>>(iter: &mut I, buf: &mut [u8; N])
 ///
 /// After that `None`, `next` is not called again. If `N` is 0, there is no array, and `next` is
 /// never called.
-///
-/// # Contract
-///
-/// [`contracts`](crate::kernels::contracts) explains how to read this contract.
-///
-/// ```text
-/// ensures source { I.into_iter_gives iter (padded_source result) }
-/// ensures fresh { padded_done result ≡ false }
-/// ensures fill { padded_fill result ≡ default }
-/// ensures runs { PadsRuns I.IntoIter.next_gives default result }
-/// ensures ends { EndsForGood (padded_steps {A = T} {n = N} I.IntoIter.next_gives) }
-/// ```
 pub fn iter_array_chunks_padded<T: Copy, const N: usize, I: IntoIterator<Item = T>>(
     iter: I,
     default: T,

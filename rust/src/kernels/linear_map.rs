@@ -21,14 +21,6 @@ pub struct LinearMap<K: Eq, V> {
 
 impl<K: Eq, V> LinearMap<K, V> {
     /// An empty map. It allocates nothing until the first pair is inserted.
-    ///
-    /// # Contract
-    ///
-    /// [`contracts`](crate::kernels::contracts) explains how to read this contract.
-    ///
-    /// ```text
-    /// ensures { result ≡ [] }
-    /// ```
     pub fn new(alloc: Global) -> Self {
         LinearMap {
             pairs: Vec::new(alloc),
@@ -36,15 +28,6 @@ impl<K: Eq, V> LinearMap<K, V> {
     }
 
     /// An empty map with room for `capacity` pairs.
-    ///
-    /// # Contract
-    ///
-    /// [`contracts`](crate::kernels::contracts) explains how to read this contract.
-    ///
-    /// ```text
-    /// ensures empty { IfOk result (λ m. m ≡ []) }
-    /// ensures needs_none { capacity ≡ 0 → IsOk result }
-    /// ```
     pub fn with_capacity(alloc: Global, capacity: usize) -> Result<Self, AllocError> {
         Ok(LinearMap {
             pairs: Vec::with_capacity(alloc, capacity)?,
@@ -52,94 +35,36 @@ impl<K: Eq, V> LinearMap<K, V> {
     }
 
     /// The number of pairs.
-    ///
-    /// # Contract
-    ///
-    /// [`contracts`](crate::kernels::contracts) explains how to read this contract.
-    ///
-    /// ```text
-    /// ensures len { result ≡ length self.now }
-    /// ensures distinct { HasDistinctKeys K.eq self.now }
-    /// ```
     pub fn len(&self) -> usize {
         self.pairs.len()
     }
 
     /// Whether there is no pair.
-    ///
-    /// # Contract
-    ///
-    /// [`contracts`](crate::kernels::contracts) explains how to read this contract.
-    ///
-    /// ```text
-    /// ensures { result ≡ (length self.now == 0) }
-    /// ```
     pub fn is_empty(&self) -> bool {
         self.pairs.is_empty()
     }
 
     /// The values, in order.
-    ///
-    /// # Contract
-    ///
-    /// [`contracts`](crate::kernels::contracts) explains how to read this contract.
-    ///
-    /// ```text
-    /// ensures rest { result ≡ values_of self.now }
-    /// ensures runs { ShowsInOrder (deref {X = V}) }
-    /// ```
     pub fn values(&self) -> Values<'_, K, V> {
         Values::new(&self.pairs)
     }
 
     /// The keys, in order.
-    ///
-    /// # Contract
-    ///
-    /// [`contracts`](crate::kernels::contracts) explains how to read this contract.
-    ///
-    /// ```text
-    /// ensures rest { result ≡ keys_of self.now }
-    /// ensures runs { ShowsInOrder (deref {X = K}) }
-    /// ```
     pub fn keys(&self) -> Keys<'_, K, V> {
         Keys::new(&self.pairs)
     }
 
     /// The pairs, in order.
-    ///
-    /// # Contract
-    ///
-    /// [`contracts`](crate::kernels::contracts) explains how to read this contract.
-    ///
-    /// ```text
-    /// ensures rest { result ≡ self.now }
-    /// ensures runs { ShowsInOrder (deref {X = K × V}) }
-    /// ```
     pub fn iter(&self) -> Iter<'_, K, V> {
         Iter::new(&self.pairs)
     }
 
     /// The index of the pair whose key equals `k`, or `None` if there is no such pair.
-    ///
-    /// # Contract
-    ///
-    /// ```text
-    /// ensures { result ≡ position (λ e. K.eq k.now e.0) self.now }
-    /// ```
     fn place_of(&self, k: &K) -> Option<usize> {
         self.pairs.iter().position(|pair| pair.0 == *k)
     }
 
     /// The value of the pair whose key equals `k`, or `None` if there is no such pair.
-    ///
-    /// # Contract
-    ///
-    /// [`contracts`](crate::kernels::contracts) explains how to read this contract.
-    ///
-    /// ```text
-    /// ensures { option_copied result ≡ value_at K.eq self.now k.now }
-    /// ```
     pub fn get(&self, k: &K) -> Option<&V> {
         let place = self.place_of(k)?;
         Some(&self.pairs[place].1)
@@ -147,15 +72,6 @@ impl<K: Eq, V> LinearMap<K, V> {
 
     /// A mutable reference to the value of the pair whose key equals `k`, or `None` if there is no
     /// such pair. A write changes only that value.
-    ///
-    /// # Contract
-    ///
-    /// [`contracts`](crate::kernels::contracts) explains how to read this contract.
-    ///
-    /// ```text
-    /// ensures* writes_back { sem 𝓛 (lends_value K.row V.row K.eq self.entry k.now result) }
-    /// ensures value { option_copied_mut result ≡ value_at K.eq self.old k.now }
-    /// ```
     pub fn get_mut(&mut self, k: &K) -> Option<&mut V> {
         let place = self.place_of(k)?;
         Some(&mut self.pairs[place].1)
@@ -168,22 +84,6 @@ impl<K: Eq, V> LinearMap<K, V> {
     /// A known key keeps its place and its stored spelling: its old value is returned, and `k` is
     /// dropped. A new pair goes to the end. Only a new pair can need memory. If there is none,
     /// `NoRoom` returns the pair, and the map is unchanged.
-    ///
-    /// # Contract
-    ///
-    /// [`contracts`](crate::kernels::contracts) explains how to read this contract.
-    ///
-    /// ```text
-    /// ensures old { IfOk result (λ old. old ≡ value_at K.eq self.old k) }
-    /// ensures put { OnOk result (self.new ≡ put K.eq self.old k v) }
-    /// ensures given { IfErr result (λ e. e.given ≡ (k, v)) }
-    /// ensures unchanged { OnErr result (self.new ≡ self.old) }
-    /// ensures refuses_new { OnErr result (value_at K.eq self.old k ≡ None) }
-    /// ensures known { IsSome (value_at K.eq self.old k) → IsOk result }
-    /// ensures known_keys { IsSome (value_at K.eq self.old k)
-    ///     → keys_of self.new ≡ keys_of self.old }
-    /// ensures distinct { HasDistinctKeys K.eq self.new }
-    /// ```
     #[inline(always)]
     pub fn insert(&mut self, k: K, v: V) -> Result<Option<V>, NoRoom<(K, V)>> {
         if let Some(place) = self.place_of(&k) {
@@ -201,20 +101,6 @@ impl<K: Eq, V> LinearMap<K, V> {
     /// For a new key, the call first makes room, and then adds the value that `f` returns at the
     /// end. For a known key `f` is not called. Only a new key can need memory. If there is none,
     /// `NoRoom` returns the key, and the map is unchanged.
-    ///
-    /// # Contract
-    ///
-    /// [`contracts`](crate::kernels::contracts) explains how to read this contract.
-    ///
-    /// ```text
-    /// requires { value_at K.eq self.old k ≡ None → F.pre f }
-    /// ensures* writes_back { sem 𝓛 (lends_put K.row V.row K.eq self.entry k result) }
-    /// ensures value { IfOk result (λ v. UnwrapsOrElse (value_at K.eq self.old k)
-    ///     (F.post f) v.now) }
-    /// ensures given { IfErr result (λ e. e.given ≡ k) }
-    /// ensures refuses_new { OnErr result (value_at K.eq self.old k ≡ None) }
-    /// ensures known { IsSome (value_at K.eq self.old k) → IsOk result }
-    /// ```
     pub fn get_or_insert_with<F: FnOnce() -> V>(&mut self, k: K, f: F) -> Result<&mut V, NoRoom<K>> {
         if let Some(place) = self.place_of(&k) {
             return Ok(&mut self.pairs[place].1);
@@ -231,29 +117,6 @@ impl<K: Eq, V> LinearMap<K, V> {
 impl<K: Eq, V> LinearMap<K, V> {
     /// The map of the pairs of `it`, inserted in order. If memory runs out, the pairs that were
     /// taken are dropped.
-    ///
-    /// # Contract
-    ///
-    /// [`contracts`](crate::kernels::contracts) explains how to read this contract.
-    ///
-    /// ```text
-    /// requires { IsFiniteIterable I.into_iter_gives I.IntoIter.can_next I.IntoIter.remaining it }
-    /// ensures pairs { IfOk result
-    ///     (λ m. (from : I.IntoIter) × (xs : List (K × V)) × I.into_iter_gives it from
-    ///     × Drains I.IntoIter.next_gives from xs × (m ≡ put_all K.eq [] xs)) }
-    ///
-    /// // The pair x that was refused has a new key. The pairs xs came before it.
-    /// ensures refuses_new { OnErr result ((from : I.IntoIter) × (xs : List (K × V)) × (x : K × V)
-    ///     × (rest : I.IntoIter)
-    ///     × I.into_iter_gives it from × YieldsThen I.IntoIter.next_gives from xs (Some x) rest
-    ///     × (value_at K.eq (put_all K.eq [] xs) x.0 ≡ None)) }
-    ///
-    /// // The clause `pairs` for one run of `next`. The proof for a chain of iterators needs this
-    /// // form.
-    /// ensures runs { IfOk result
-    ///     (λ m. (from : I.IntoIter) × I.into_iter_gives it from
-    ///     × WholeRun I.IntoIter.next_gives from (λ run. m ≡ put_all K.eq [] run.items)) }
-    /// ```
     pub fn try_from_iter<I: IntoIterator<Item = (K, V)>>(
         alloc: Global,
         it: I,

@@ -34,15 +34,6 @@ pub(crate) struct Lines {
 impl Lines {
     /// Lines of `cells` cells. The first cell of the output is the one after `before` others of its
     /// line.
-    ///
-    /// # Contract
-    ///
-    /// ```text
-    /// requires some_cells { 0 < cells }
-    /// requires few_cells { cells < 2 ^ 32 }
-    /// ensures cells { result.cells ≡ cells }
-    /// ensures before { result.before ≡ before }
-    /// ```
     #[inline(always)]
     pub(crate) fn new(cells: usize, before: usize) -> Lines {
         Lines { cells, before }
@@ -50,13 +41,6 @@ impl Lines {
 
     /// The row to which column `col` of `region` is put, if each column is put as far as `rows` rows after the line of its
     /// first cell begins. `skew` is the number of cells by which the next column begins later in its line.
-    ///
-    /// # Contract
-    ///
-    /// ```text
-    /// requires { region.row_start ≤ region.row_end }
-    /// ensures { result ≡ limit region self.cells self.before skew rows col }
-    /// ```
     #[inline(always)]
     fn limit(self, region: Region, skew: usize, rows: usize, col: usize) -> usize {
         let first = self.before.wrapping_add(region.row_start);
@@ -65,13 +49,6 @@ impl Lines {
     }
 
     /// As many cells, or fewer, come before the first cell of a column of `region` in the line of that cell.
-    ///
-    /// # Contract
-    ///
-    /// ```text
-    /// ensures most { (x : ℕ) → cells_before region.row_start self.cells self.before skew x ≤ result }
-    /// ensures few { result ≤ self.cells }
-    /// ```
     #[inline(always)]
     fn most_before(self, region: Region, skew: usize) -> usize {
         if skew == 0 {
@@ -87,13 +64,6 @@ impl Lines {
     ///
     /// A holder that puts one block cannot ask for these rows by itself: it does not see in which rows the lines of the
     /// neighbouring columns begin.
-    ///
-    /// # Contract
-    ///
-    /// ```text
-    /// requires cols_in_order { region.col_start ≤ region.col_end }
-    /// requires some_cols { col < end }
-    /// ```
     #[inline(always)]
     fn expect_rows<R: Source + Copy>(
         self,
@@ -183,26 +153,6 @@ impl PutRegion for Panel {
 
 /// Puts a row of lines that are whole in every column. Each column is put as far as `done` rows after the line of its first
 /// cell begins, and is put one line further.
-///
-/// # Contract
-///
-/// ```text
-/// requires few_rows { region.row_end ≤ MOST_ROWS }
-/// requires ready { IsReady region matrix.width matrix.height
-///     (R.items matrix.source) (M.items out) }
-/// requires from { (x : ℕ) → cells_before region.row_start lines.cells lines.before skew x ≤ done }
-/// requires to { done + lines.cells ≤ rows_of region }
-/// ensures put { (old : List M.Item)
-///     → IsPutTo region (limit region lines.cells lines.before skew done)
-///     matrix.width matrix.height (R.items matrix.source) old (M.items out)
-///     → IsPutTo region (limit region lines.cells lines.before skew (done + lines.cells))
-///     matrix.width matrix.height (R.items matrix.source) old (M.items result) }
-/// ensures holder { (old : M)
-///     → M.same_holder (items_to region (limit region lines.cells lines.before skew done))
-///     old out
-///     → M.same_holder (items_to region (limit region lines.cells lines.before skew (done + lines.cells)))
-///     old result }
-/// ```
 #[inline(never)]
 fn put_row<M: Cells, R: Source<Item = M::Item> + Copy>(
     out: M,

@@ -33,8 +33,6 @@ pub use no_room::NoRoom;
 /// length of its list, so it keeps its value if a holder converts it to a `usize`.
 pub type Index = crate::width::Index;
 
-pub mod contracts;
-
 /// What the functions of [`kernels`](self) that may need memory take and return: [`Global`](memory::Global) stands for the
 /// allocator, and [`AllocError`](memory::AllocError) says that there was no memory. The functions at the package's root need
 /// neither.

@@ -71,28 +71,9 @@ pub trait Places {
     type Item;
 
     /// The number of places.
-    ///
-    /// # Contract
-    ///
-    /// [`contracts`](crate::kernels::contracts) explains how to read this contract.
-    ///
-    /// ```text
-    /// ensures { result ≡ length (items self.now) }
-    /// ```
     fn len(&self) -> usize;
 
     /// Exchanges the items at places `i` and `j`. If `i` equals `j`, nothing changes.
-    ///
-    /// # Contract
-    ///
-    /// [`contracts`](crate::kernels::contracts) explains how to read this contract.
-    ///
-    /// ```text
-    /// requires first { i < length (items self.old) }
-    /// requires second { j < length (items self.old) }
-    /// ensures exchanged { items self.new ≡ swap (items self.old) i j }
-    /// ensures holder { same_holder 1 self.old self.new }
-    /// ```
     fn exchange(&mut self, i: usize, j: usize);
 
     /// Only for speed: exchanges two tiles of 8 by 8 items, each with the mirror image of the
@@ -100,16 +81,6 @@ pub trait Places {
     /// tile. Row r of the one tile is the 8 places from `x[r]` on, and row r of the other the 8
     /// places from `y[r]` on. No two of these 16 rows may overlap. A holder may have a faster way
     /// to do this than 64 calls of `exchange`.
-    ///
-    /// # Contract
-    ///
-    /// [`contracts`](crate::kernels::contracts) explains how to read this contract.
-    ///
-    /// ```text
-    /// requires { AreTiles x y (length (items self.old)) }
-    /// ensures exchanged { TilesExchanged 64 x y (items self.old) (items self.new) }
-    /// ensures holder { same_holder 64 self.old self.new }
-    /// ```
     #[inline(always)]
     fn exchange_tiles(&mut self, x: [usize; 8], y: [usize; 8]) {
         len_fits(self.len());
@@ -124,16 +95,6 @@ pub trait Places {
     /// and column c is exchanged with the item in row c and column r. Row r is the 8 places from
     /// `x[r]` on. No two of the 8 rows may overlap. A holder may have a faster way to do this than
     /// 28 calls of `exchange`.
-    ///
-    /// # Contract
-    ///
-    /// [`contracts`](crate::kernels::contracts) explains how to read this contract.
-    ///
-    /// ```text
-    /// requires { IsTile x (length (items self.old)) }
-    /// ensures turned { TileTurned 64 x (items self.old) (items self.new) }
-    /// ensures holder { same_holder 28 self.old self.new }
-    /// ```
     #[inline(always)]
     fn turn_tile(&mut self, x: [usize; 8]) {
         len_fits(self.len());
@@ -153,18 +114,6 @@ pub trait Places {
     /// Only for speed: exchanges two runs of `len` consecutive items, those from place `i` on and
     /// those from place `j` on. Each run keeps its order. The runs must not overlap. A holder may
     /// have a faster way to do this than `len` calls of `exchange`.
-    ///
-    /// # Contract
-    ///
-    /// [`contracts`](crate::kernels::contracts) explains how to read this contract.
-    ///
-    /// ```text
-    /// requires apart { (i + len ≤ j) ⊎ (j + len ≤ i) }
-    /// requires first { i + len ≤ length (items self.old) }
-    /// requires second { j + len ≤ length (items self.old) }
-    /// ensures exchanged { RunsExchanged i j len (items self.old) (items self.new) }
-    /// ensures holder { same_holder len self.old self.new }
-    /// ```
     #[inline(always)]
     fn exchange_runs(&mut self, i: usize, j: usize, len: usize) {
         len_fits(self.len());
@@ -184,44 +133,15 @@ pub trait Cells {
     type Item: Copy;
 
     /// The number of cells.
-    ///
-    /// # Contract
-    ///
-    /// [`contracts`](crate::kernels::contracts) explains how to read this contract.
-    ///
-    /// ```text
-    /// ensures { result ≡ length (items self.now) }
-    /// ```
     fn len(&self) -> usize;
 
     /// Puts `v` into cell `i`. All other cells keep their items.
-    ///
-    /// # Contract
-    ///
-    /// [`contracts`](crate::kernels::contracts) explains how to read this contract.
-    ///
-    /// ```text
-    /// requires { i < length (items self.old) }
-    /// ensures written { items self.new ≡ slice_set (items self.old) i v }
-    /// ensures holder { same_holder 1 self.old self.new }
-    /// ```
     fn put(&mut self, i: usize, v: Self::Item);
 
     /// Only for speed: puts the transpose of a block. For each row r and column c of the block, the
     /// item at index `from + r * width + c` of `source` is put into cell `to + c * height + r`. All
     /// other cells keep their items. The columns of the block must not overlap in the cells. A
     /// holder may have a faster way to do this than one call of `put` for each item.
-    ///
-    /// # Contract
-    ///
-    /// [`contracts`](crate::kernels::contracts) explains how to read this contract.
-    ///
-    /// ```text
-    /// requires { BlockFits block (length (R.items source.now)) (length (items self.old)) }
-    /// ensures put { IsBlockPut (block_items block) block (R.items source.now)
-    ///     (items self.old) (items self.new) }
-    /// ensures holder { same_holder (block_items block) self.old self.new }
-    /// ```
     #[inline(always)]
     fn put_block<R: Source<Item = Self::Item>>(&mut self, source: &R, block: Block)
     where
@@ -254,26 +174,9 @@ pub trait Source {
     type Item: Copy;
 
     /// The number of items.
-    ///
-    /// # Contract
-    ///
-    /// [`contracts`](crate::kernels::contracts) explains how to read this contract.
-    ///
-    /// ```text
-    /// ensures { result ≡ length (items self.now) }
-    /// ```
     fn len(&self) -> usize;
 
     /// The item at index `i`.
-    ///
-    /// # Contract
-    ///
-    /// [`contracts`](crate::kernels::contracts) explains how to read this contract.
-    ///
-    /// ```text
-    /// requires { i < length (items self.now) }
-    /// ensures { slice_get (items self.now) i ≡ Some result }
-    /// ```
     fn at(&self, i: usize) -> Self::Item;
 
     /// Only for speed: a hint that the item at index `i` may be read soon. Nothing has to follow from it. A holder may fetch
@@ -283,14 +186,6 @@ pub trait Source {
 
     /// Only for speed: the items as a slice, if they are next to each other in memory in this
     /// order. A holder of cells can then read more than one of them at once.
-    ///
-    /// # Contract
-    ///
-    /// [`contracts`](crate::kernels::contracts) explains how to read this contract.
-    ///
-    /// ```text
-    /// ensures { IfSome result (λ slice. slice.now ≡ items self.now) }
-    /// ```
     #[inline(always)]
     fn as_slice(&self) -> Option<&[Self::Item]> {
         None

@@ -37,15 +37,6 @@ const SHORT_PATH_ITEMS: usize = 8192;
 ///
 /// With a `row_width` of 1 this says whether `len` is zero or a power of two. With a `row_width` of
 /// 0 it says whether `len` is zero.
-///
-/// # Contract
-///
-/// [`contracts`](crate::kernels::contracts) explains how to read this contract.
-///
-/// ```text
-/// ensures rows { IsTrue result ↔ FitsRows len row_width }
-/// ensures items { row_width ≡ 1 → (IsTrue result ↔ IsZeroOrPowerOfTwo len) }
-/// ```
 #[inline]
 #[must_use]
 pub const fn fits_rows(len: usize, row_width: usize) -> bool {
@@ -60,18 +51,6 @@ pub const fn fits_rows(len: usize, row_width: usize) -> bool {
 ///
 /// With 2^k items, index `i` gets the item from the index that has the k bits of `i` in reversed
 /// order. A second call restores the original order. No item is cloned or dropped.
-///
-/// # Contract
-///
-/// [`contracts`](crate::kernels::contracts) explains how to read this contract.
-///
-/// ```text
-/// requires { IsReversible (length vals.old) }
-/// ensures order { IsReversal vals.old vals.new }
-/// ensures inverse { IsReversal vals.new vals.old }
-/// ensures at { (k i : ℕ) → length vals.old ≡ 2 ^ k → i < 2 ^ k
-///     → slice_get vals.new i ≡ slice_get vals.old (rev k i) }
-/// ```
 #[allow(dead_code)]
 pub(crate) fn reverse_slice_index_bits<F>(vals: &mut [F]) {
     let _ = reverse_items(vals);
@@ -82,21 +61,6 @@ pub(crate) fn reverse_slice_index_bits<F>(vals: &mut [F]) {
 /// With 2^k items, index `i` gets the item from the index that has the k bits of `i` in reversed
 /// order. A list of n items takes at most 3n/2 swaps, which are counted from 0. The length must be
 /// zero or a power of two, which `fits_rows(places.len(), 1)` checks.
-///
-/// # Contract
-///
-/// [`contracts`](crate::kernels::contracts) explains how to read this contract.
-///
-/// ```text
-/// requires { IsReversible (length (S.items places.old)) }
-/// ensures order { IsReversal (S.items places.old) (S.items places.new) }
-/// ensures inverse { IsReversal (S.items places.new) (S.items places.old) }
-/// ensures at { (k i : ℕ) → length (S.items places.old) ≡ 2 ^ k → i < 2 ^ k
-///     → slice_get (S.items places.new) i ≡ slice_get (S.items places.old) (rev k i) }
-/// ensures count { result ≡ reversal_swaps (length (S.items places.old)) }
-/// ensures bound { result ≤ 3 * length (S.items places.old) / 2 }
-/// ensures holder { S.same_holder result places.old places.new }
-/// ```
 #[inline(always)]
 pub fn reverse_counted<S: Places>(places: &mut S) -> u128 {
     reverse_index_bits(Swaps::new(places)).swaps()
@@ -108,18 +72,6 @@ pub fn reverse_counted<S: Places>(places: &mut S) -> u128 {
 ///
 /// With 2^k rows, the row at index `r` comes from the index that has the k bits of `r` in reversed
 /// order. A second call restores the original order. No item is cloned or dropped.
-///
-/// # Contract
-///
-/// [`contracts`](crate::kernels::contracts) explains how to read this contract.
-///
-/// ```text
-/// requires { FitsRows (length vals.old) row_width }
-/// ensures order { IsRowReversal row_width vals.old vals.new }
-/// ensures inverse { IsRowReversal row_width vals.new vals.old }
-/// ensures at { (k r j : ℕ) → length vals.old ≡ row_width * 2 ^ k → r < 2 ^ k → j < row_width
-///     → slice_get vals.new (r * row_width + j) ≡ slice_get vals.old (rev k r * row_width + j) }
-/// ```
 #[allow(dead_code)]
 pub(crate) fn reverse_slice_row_index_bits<F>(vals: &mut [F], row_width: usize) {
     let _ = reverse_rows_of_items(vals, row_width);
@@ -131,22 +83,6 @@ pub(crate) fn reverse_slice_row_index_bits<F>(vals: &mut [F], row_width: usize) 
 /// With 2^k rows, the row at index `r` comes from the index that has the k bits of `r` in reversed
 /// order. The swaps are counted from 0. The number of rows must be zero or a power of two, which
 /// [`fits_rows`] checks.
-///
-/// # Contract
-///
-/// [`contracts`](crate::kernels::contracts) explains how to read this contract.
-///
-/// ```text
-/// requires { FitsRows (length (S.items places.old)) row_width }
-/// ensures order { IsRowReversal row_width (S.items places.old) (S.items places.new) }
-/// ensures inverse { IsRowReversal row_width (S.items places.new) (S.items places.old) }
-/// ensures at { (k r j : ℕ) → length (S.items places.old) ≡ row_width * 2 ^ k → r < 2 ^ k
-///     → j < row_width → slice_get (S.items places.new) (r * row_width + j)
-///     ≡ slice_get (S.items places.old) (rev k r * row_width + j) }
-/// ensures count { result ≡ row_swaps (length (S.items places.old)) row_width }
-/// ensures bound { result ≤ length (S.items places.old) / 2 }
-/// ensures holder { S.same_holder result places.old places.new }
-/// ```
 #[inline(always)]
 pub fn reverse_rows_counted<S: Places>(places: &mut S, row_width: usize) -> u128 {
     let rows = RowDigits::of(places.len(), row_width);
@@ -158,22 +94,6 @@ pub fn reverse_rows_counted<S: Places>(places: &mut S, row_width: usize) -> u128
 ///
 /// A list of n items takes at most 3n/2 swaps. The length must be zero or a power of two, which
 /// `fits_rows(m.len(), 1)` checks.
-///
-/// # Contract
-///
-/// [`contracts`](crate::kernels::contracts) explains how to read this contract.
-///
-/// ```text
-/// requires { IsReversible (length (S.items m.old.holder)) }
-/// ensures order { IsReversal (S.items m.old.holder) (S.items m.new.holder) }
-/// ensures at { (k i : ℕ) → length (S.items m.old.holder) ≡ 2 ^ k → i < 2 ^ k
-///     → slice_get (S.items m.new.holder) i ≡ slice_get (S.items m.old.holder) (rev k i) }
-/// ensures count { m.new.count ≡ counted m.old.count
-///     (reversal_swaps (length (S.items m.old.holder))) }
-/// ensures bound { let n = length (S.items m.old.holder) in reversal_swaps n ≤ 3 * n / 2 }
-/// ensures holder { S.same_holder (reversal_swaps (length (S.items m.old.holder)))
-///     m.old.holder m.new.holder }
-/// ```
 pub fn reverse_index_bits_on<S: Places>(m: &mut Swaps<S>) {
     m.count = reverse_index_bits(Swaps::resumed(&mut m.holder, m.count)).swaps();
 }
@@ -182,22 +102,6 @@ pub fn reverse_index_bits_on<S: Places>(m: &mut Swaps<S>) {
 ///
 /// Each pair of items whose indices are each other's reverse is swapped once. The length must be
 /// zero or a power of two, which `fits_rows(m.len(), 1)` checks.
-///
-/// # Contract
-///
-/// [`contracts`](crate::kernels::contracts) explains how to read this contract.
-///
-/// ```text
-/// requires { IsReversible (length (S.items m.old.holder)) }
-/// ensures order { IsReversal (S.items m.old.holder) (S.items m.new.holder) }
-/// ensures at { (k i : ℕ) → length (S.items m.old.holder) ≡ 2 ^ k → i < 2 ^ k
-///     → slice_get (S.items m.new.holder) i ≡ slice_get (S.items m.old.holder) (rev k i) }
-/// ensures count { m.new.count ≡ counted m.old.count
-///     (short_swaps (clog (length (S.items m.old.holder)))) }
-/// ensures bound { let n = length (S.items m.old.holder) in short_swaps (clog n) ≤ n / 2 }
-/// ensures holder { S.same_holder (short_swaps (clog (length (S.items m.old.holder))))
-///     m.old.holder m.new.holder }
-/// ```
 pub fn reverse_index_bits_short<S: Places>(m: &mut Swaps<S>) {
     m.count = reverse_short(Swaps::resumed(&mut m.holder, m.count)).swaps();
 }
@@ -208,23 +112,6 @@ pub fn reverse_index_bits_short<S: Places>(m: &mut Swaps<S>) {
 /// A list of n items takes at most 3n/2 swaps. [`reverse_index_bits_short`] takes at most n/2, but
 /// the order of the swaps here suits lists that do not fit in a cache. The length must be at least
 /// 4, and a power of two, which std's `is_power_of_two` checks.
-///
-/// # Contract
-///
-/// [`contracts`](crate::kernels::contracts) explains how to read this contract.
-///
-/// ```text
-/// requires fits { IsReversible (length (S.items m.old.holder)) }
-/// requires not_short { 4 ≤ length (S.items m.old.holder) }
-/// ensures order { IsReversal (S.items m.old.holder) (S.items m.new.holder) }
-/// ensures at { (k i : ℕ) → length (S.items m.old.holder) ≡ 2 ^ k → i < 2 ^ k
-///     → slice_get (S.items m.new.holder) i ≡ slice_get (S.items m.old.holder) (rev k i) }
-/// ensures count { m.new.count ≡ counted m.old.count
-///     (long_swaps (clog (length (S.items m.old.holder)))) }
-/// ensures bound { let n = length (S.items m.old.holder) in long_swaps (clog n) ≤ 3 * n / 2 }
-/// ensures holder { S.same_holder (long_swaps (clog (length (S.items m.old.holder))))
-///     m.old.holder m.new.holder }
-/// ```
 pub fn reverse_index_bits_long<S: Places>(m: &mut Swaps<S>) {
     m.count = reverse_long(Swaps::resumed(&mut m.holder, m.count)).swaps();
 }
@@ -234,23 +121,6 @@ pub fn reverse_index_bits_long<S: Places>(m: &mut Swaps<S>) {
 /// Each row has `row_width` items. With 2^k rows, the row at index `r` comes from the index that
 /// has the k bits of `r` in reversed order. The number of rows must be zero or a power of two,
 /// which [`fits_rows`] checks.
-///
-/// # Contract
-///
-/// [`contracts`](crate::kernels::contracts) explains how to read this contract.
-///
-/// ```text
-/// requires { FitsRows (length (S.items m.old.holder)) row_width }
-/// ensures order { IsRowReversal row_width (S.items m.old.holder) (S.items m.new.holder) }
-/// ensures at { (k r j : ℕ) → length (S.items m.old.holder) ≡ row_width * 2 ^ k → r < 2 ^ k
-///     → j < row_width → slice_get (S.items m.new.holder) (r * row_width + j)
-///     ≡ slice_get (S.items m.old.holder) (rev k r * row_width + j) }
-/// ensures count { m.new.count ≡ counted m.old.count
-///     (row_swaps (length (S.items m.old.holder)) row_width) }
-/// ensures bound { let n = length (S.items m.old.holder) in row_swaps n row_width ≤ n / 2 }
-/// ensures holder { S.same_holder (row_swaps (length (S.items m.old.holder)) row_width)
-///     m.old.holder m.new.holder }
-/// ```
 pub fn reverse_row_index_bits_on<S: Places>(m: &mut Swaps<S>, row_width: usize) {
     let rows = RowDigits::of(m.len(), row_width);
     m.count = reverse_rows(Swaps::resumed(&mut m.holder, m.count), rows).swaps();
@@ -263,22 +133,6 @@ pub fn reverse_row_index_bits_on<S: Places>(m: &mut Swaps<S>, row_width: usize) 
 /// the h bits of x in reversed order. A list of n items takes at most n/2 swaps. The length must be
 /// `2^(h + c)`. To check the length, compare it with the power that
 /// [`checked_log_size_sum`](crate::kernels::bits::checked_log_size_sum) returns for the two exponents.
-///
-/// # Contract
-///
-/// [`contracts`](crate::kernels::contracts) explains how to read this contract.
-///
-/// ```text
-/// requires { length (S.items m.old.holder) ≡ 2 ^ (lb_num_chunks + lb_chunk_size) }
-/// ensures order { IsRowReversal (2 ^ lb_chunk_size) (S.items m.old.holder)
-///     (S.items m.new.holder) }
-/// ensures count { m.new.count ≡ counted m.old.count
-///     (short_swaps lb_num_chunks * 2 ^ lb_chunk_size) }
-/// ensures bound { short_swaps lb_num_chunks * 2 ^ lb_chunk_size
-///     ≤ length (S.items m.old.holder) / 2 }
-/// ensures holder { S.same_holder (short_swaps lb_num_chunks * 2 ^ lb_chunk_size)
-///     m.old.holder m.new.holder }
-/// ```
 pub fn reverse_chunks_on<S: Places>(m: &mut Swaps<S>, lb_num_chunks: usize, lb_chunk_size: usize) {
     let counter = Swaps::resumed(&mut m.holder, m.count);
     m.count = reverse_chunks(counter, lb_num_chunks, lb_chunk_size).swaps();
@@ -288,14 +142,6 @@ pub fn reverse_chunks_on<S: Places>(m: &mut Swaps<S>, lb_num_chunks: usize, lb_c
 /// value. After that, a proof knows nothing about the slice that the holder borrowed. So the
 /// contract is about the slice that is returned, and says by `ghost_name` that this is the slice
 /// `vals`.
-///
-/// # Contract
-///
-/// ```text
-/// requires { IsReversible (length vals.old) }
-/// ensures order { IsReversal vals.old result.now }
-/// ensures slice { result.ghost_name ≡ vals.entry.ghost_name }
-/// ```
 #[inline(always)]
 fn reverse_items<F>(vals: &mut [F]) -> &mut [F] {
     let SlicePlaces { items } = reverse_short(SlicePlaces::new(vals));
@@ -303,14 +149,6 @@ fn reverse_items<F>(vals: &mut [F]) -> &mut [F] {
 }
 
 /// Does the same as [`reverse_items`], for rows.
-///
-/// # Contract
-///
-/// ```text
-/// requires { FitsRows (length vals.old) row_width }
-/// ensures order { IsRowReversal row_width vals.old result.now }
-/// ensures slice { result.ghost_name ≡ vals.entry.ghost_name }
-/// ```
 #[inline(always)]
 fn reverse_rows_of_items<F>(vals: &mut [F], row_width: usize) -> &mut [F] {
     let rows = RowDigits::of(vals.len() as usize, row_width);
@@ -319,14 +157,6 @@ fn reverse_rows_of_items<F>(vals: &mut [F], row_width: usize) -> &mut [F] {
 }
 
 /// The kernel of [`reverse_index_bits_on`].
-///
-/// # Contract
-///
-/// ```text
-/// requires { IsReversible (length (M.items m)) }
-/// ensures order { IsReversal (M.items m) (M.items result) }
-/// ensures holder { M.same_holder (reversal_swaps (length (M.items m))) m result }
-/// ```
 #[inline(always)]
 pub(crate) fn reverse_index_bits<M: Places>(m: M) -> M {
     if m.len() <= SHORT_PATH_ITEMS {

@@ -56,14 +56,6 @@ const ENOUGH_LEVELS: u32 = 64;
 ///
 /// If that product overflows, they do not. This tests the preconditions of [`transpose`] and
 /// [`transpose_on`].
-///
-/// # Contract
-///
-/// [`contracts`](crate::kernels::contracts) explains how to read this contract.
-///
-/// ```text
-/// ensures { IsTrue result ↔ ((input_len ≡ width * height) × (output_len ≡ width * height)) }
-/// ```
 #[inline]
 #[must_use]
 pub const fn fits_matrix(input_len: usize, output_len: usize, width: usize, height: usize) -> bool {
@@ -79,17 +71,6 @@ pub const fn fits_matrix(input_len: usize, output_len: usize, width: usize, heig
 /// The item at `y * width + x` of `input` is put at `x * height + y` of `output`. If you transpose
 /// `output`, as a matrix of `width` rows of `height` items, you get `input` again. [`transpose_on`]
 /// writes the items in the same order.
-///
-/// # Contract
-///
-/// [`contracts`](crate::kernels::contracts) explains how to read this contract.
-///
-/// ```text
-/// requires input_fits { length input.now ≡ width * height }
-/// requires output_fits { length output.old ≡ width * height }
-/// ensures order { IsTranspose width height input.now output.new }
-/// ensures inverse { IsTranspose height width output.new input.now }
-/// ```
 #[allow(dead_code)]
 pub(crate) fn transpose<T: Copy>(input: &[T], output: &mut [T], width: usize, height: usize) {
     let _ = transpose_items(Matrix::new(SliceSource::new(input), width, height), output);
@@ -97,27 +78,6 @@ pub(crate) fn transpose<T: Copy>(input: &[T], output: &mut [T], width: usize, he
 
 /// The kernel of [`transpose_source_region_on`]. It says by the bounds of the region, too, which
 /// cells it puts and which stay.
-///
-/// # Contract
-///
-/// ```text
-/// requires inside { LiesInMatrix region matrix.width matrix.height }
-/// requires input_fits { length (R.items matrix.source) ≡ matrix.width * matrix.height }
-/// requires output_fits { length (M.items out) ≡ matrix.width * matrix.height }
-/// requires len_fits { length (R.items matrix.source) < 2 ^ 64 }
-/// ensures transposed { IsRegionTransposed region matrix.width matrix.height
-///     (R.items matrix.source) (M.items out) (M.items result) }
-/// ensures put { (x y : ℕ) → region.row_start ≤ y → y < region.row_end
-///     → region.col_start ≤ x → x < region.col_end
-///     → slice_get (M.items result) (x * matrix.height + y)
-///     ≡ slice_get (R.items matrix.source) (y * matrix.width + x) }
-/// ensures stay { (x y : ℕ) → y < matrix.height
-///     → ((y < region.row_start) ⊎ (region.row_end ≤ y) ⊎ (x < region.col_start)
-///     ⊎ (region.col_end ≤ x))
-///     → slice_get (M.items result) (x * matrix.height + y)
-///     ≡ slice_get (M.items out) (x * matrix.height + y) }
-/// ensures holder { M.same_holder (items_of region) out result }
-/// ```
 #[inline(always)]
 fn put_region<M: Cells, R: Source<Item = M::Item> + Copy>(
     out: M,
@@ -131,15 +91,6 @@ fn put_region<M: Cells, R: Source<Item = M::Item> + Copy>(
 /// value. After that, a proof knows nothing about the slice that the holder borrowed. So the
 /// contract is about the slice that is returned, and says by `ghost_name` that this is the slice
 /// `output`.
-///
-/// # Contract
-///
-/// ```text
-/// requires input_fits { length (R.items matrix.source) ≡ matrix.width * matrix.height }
-/// requires output_fits { length output.old ≡ matrix.width * matrix.height }
-/// ensures order { IsTranspose matrix.width matrix.height (R.items matrix.source) result.now }
-/// ensures slice { result.ghost_name ≡ output.entry.ghost_name }
-/// ```
 #[inline(always)]
 fn transpose_items<T: Copy, R: Source<Item = T> + Copy>(
     matrix: Matrix<R>,
@@ -153,16 +104,6 @@ fn transpose_items<T: Copy, R: Source<Item = T> + Copy>(
 /// The kernel of [`transpose_source_on`]. The source is passed by value, here and in the functions
 /// that this one calls. Behind a reference, the address of the items would be read from memory
 /// again for each item.
-///
-/// # Contract
-///
-/// ```text
-/// requires input_fits { length (R.items matrix.source) ≡ matrix.width * matrix.height }
-/// requires output_fits { length (M.items out) ≡ matrix.width * matrix.height }
-/// ensures order { IsTranspose matrix.width matrix.height (R.items matrix.source)
-///     (M.items result) }
-/// ensures holder { M.same_holder (matrix.width * matrix.height) out result }
-/// ```
 #[inline(always)]
 fn transpose_by_shape<M: Cells, R: Source<Item = M::Item> + Copy>(out: M, matrix: Matrix<R>) -> M {
     let items = matrix.source.len();
@@ -176,33 +117,12 @@ fn transpose_by_shape<M: Cells, R: Source<Item = M::Item> + Copy>(out: M, matrix
 
 /// Does the same as [`transpose_by_shape`], in the order for a matrix that is not tiny. It is not
 /// inlined, so that calls for tiny matrices stay short.
-///
-/// # Contract
-///
-/// ```text
-/// requires input_fits { length (R.items matrix.source) ≡ matrix.width * matrix.height }
-/// requires output_fits { length (M.items out) ≡ matrix.width * matrix.height }
-/// ensures order { IsTranspose matrix.width matrix.height (R.items matrix.source)
-///     (M.items result) }
-/// ensures holder { M.same_holder (matrix.width * matrix.height) out result }
-/// ```
 #[inline(never)]
 fn transpose_outlined<M: Cells, R: Source<Item = M::Item> + Copy>(out: M, matrix: Matrix<R>) -> M {
     transpose_matrix(out, matrix, Order::by_shape(matrix))
 }
 
 /// Transposes a matrix in the given order.
-///
-/// # Contract
-///
-/// ```text
-/// requires input_fits { length (R.items matrix.source) ≡ matrix.width * matrix.height }
-/// requires output_fits { length (M.items out) ≡ matrix.width * matrix.height }
-/// requires len_fits { length (R.items matrix.source) < 2 ^ 64 }
-/// ensures order { IsTranspose matrix.width matrix.height (R.items matrix.source)
-///     (M.items result) }
-/// ensures holder { M.same_holder (matrix.width * matrix.height) out result }
-/// ```
 #[inline(always)]
 pub(crate) fn transpose_matrix<M: Cells, R: Source<Item = M::Item> + Copy, O: PutRegion>(
     out: M,

@@ -13,17 +13,6 @@ use crate::width::Index as usize;
 /// power of two, and std's `is_power_of_two` does.
 ///
 /// This is `reverse_bits_len(x, k)`.
-///
-/// # Contract
-///
-/// [`contracts`](crate::kernels::contracts) explains how to read this contract.
-///
-/// ```text
-/// requires { HasLog2 n }
-/// ensures reversed { (k : ℕ) → n ≡ 2 ^ k → result ≡ rev_word k x }
-/// ensures digits { (k : ℕ) → 1 ≤ k → n ≡ 2 ^ k → result ≡ rev k x }
-/// ensures below { x < n → result < n }
-/// ```
 #[inline(always)]
 pub(crate) const fn reverse_bits(x: usize, n: usize) -> usize {
     reverse_bits_len(x, n.trailing_zeros() as usize)
@@ -31,19 +20,6 @@ pub(crate) const fn reverse_bits(x: usize, n: usize) -> usize {
 
 /// Reverses the `bit_len` low binary digits of `x` and drops the others. `bit_len` must be at most
 /// 64, which this call does not check. A `bit_len` of 0 reverses all 64 digits.
-///
-/// # Contract
-///
-/// [`contracts`](crate::kernels::contracts) explains how to read this contract.
-///
-/// ```text
-/// requires { bit_len ≤ 64 }
-/// ensures reversed { result ≡ rev_word bit_len x }
-/// ensures digits { 1 ≤ bit_len → result ≡ rev bit_len x }
-/// ensures below { 1 ≤ bit_len → result < 2 ^ bit_len }
-/// ensures inverse { 1 ≤ bit_len → rev bit_len result ≡ x % 2 ^ bit_len }
-/// ensures twice { x < 2 ^ bit_len → rev_word bit_len result ≡ x }
-/// ```
 #[inline(always)]
 pub(crate) const fn reverse_bits_len(x: usize, bit_len: usize) -> usize {
     let reversed = reverse_u64(x as u64) as usize;
@@ -51,11 +27,6 @@ pub(crate) const fn reverse_bits_len(x: usize, bit_len: usize) -> usize {
     reversed >> ((64 - bit_len) % 64)
 }
 
-/// # Contract
-///
-/// ```text
-/// ensures { result ≡ rev 64 x }
-/// ```
 #[inline(always)]
 const fn reverse_u64(x: u64) -> u64 {
     let halves = swap_groups(x, 32, 0x0000_0000_ffff_ffff);
@@ -67,13 +38,6 @@ const fn reverse_u64(x: u64) -> u64 {
 }
 
 /// Exchanges the groups of `width` digits at which `low` has ones with those above them.
-///
-/// # Contract
-///
-/// ```text
-/// requires { width < 64 }
-/// ensures { result ≡ bit_or (bit_and x low * 2 ^ width % 2 ^ 64) (bit_and (x / 2 ^ width) low) }
-/// ```
 #[inline(always)]
 const fn swap_groups(x: u64, width: u32, low: u64) -> u64 {
     ((x & low) << width) | ((x >> width) & low)

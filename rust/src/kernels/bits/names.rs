@@ -14,15 +14,6 @@ use crate::memory::{AllocError, Global, String};
 ///
 /// `AllocError` if there is no memory for as many bytes as `name` has. The call requests no more
 /// than that. With an empty name it never fails.
-///
-/// # Contract
-///
-/// [`contracts`](crate::kernels::contracts) explains how to read this contract.
-///
-/// ```text
-/// ensures short { IfOk result (λ s. string_bytes s ≡ short_name name.now) }
-/// ensures refused { OnErr result (0 < length name.now) }
-/// ```
 pub fn pretty_name(alloc: Global, name: &str) -> Result<String, AllocError> {
     let mut short = String::with_capacity(alloc, name.len())?;
     let mut rest = name;
@@ -36,25 +27,12 @@ pub fn pretty_name(alloc: Global, name: &str) -> Result<String, AllocError> {
 }
 
 /// The index of the first `<`, `>` or `,`.
-///
-/// # Contract
-///
-/// ```text
-/// ensures place { result ≡ position is_mark name.now }
-/// ensures fits { IfSome result (λ i. i + 1 < 2 ^ 64) }
-/// ```
 fn first_mark(name: &str) -> Option<usize> {
     name.bytes()
         .position(|b| b == b'<' || b == b'>' || b == b',')
 }
 
 /// The part after the last `::`, or the whole text if there is none.
-///
-/// # Contract
-///
-/// ```text
-/// ensures { result.now ≡ last_part text.now }
-/// ```
 fn last_part(text: &str) -> &str {
     let mut part = text;
     while let Some((_, after)) = part.split_once("::") {

@@ -22,11 +22,6 @@ impl<'a, K, V> Clone for Iter<'a, K, V> {
 }
 
 impl<'a, K, V> Iter<'a, K, V> {
-    /// # Contract
-    ///
-    /// ```text
-    /// ensures { result ≡ pairs.now }
-    /// ```
     pub(super) fn new(pairs: &'a [(K, V)]) -> Self {
         Iter {
             pairs: pairs.iter(),
@@ -43,16 +38,6 @@ impl<'a, K, V> Iterator for Iter<'a, K, V> {
     }
 
     /// The number of pairs that are left, as the lower and as the upper bound.
-    ///
-    /// # Contract
-    ///
-    /// [`contracts`](crate::kernels::contracts) explains how to read this contract.
-    ///
-    /// ```text
-    /// ensures lower { IsWithinCount result.0 (at_most (length self.now)) }
-    /// ensures upper { IfSome result.1 (UpTo (at_most (length self.now))) }
-    /// ensures exact { result ≡ (length self.now, Some (length self.now)) }
-    /// ```
     fn size_hint(&self) -> (usize, Option<usize>) {
         let pairs = self.len();
         (pairs, Some(pairs))
@@ -91,11 +76,6 @@ impl<'a, K, V> Clone for Keys<'a, K, V> {
 }
 
 impl<'a, K, V> Keys<'a, K, V> {
-    /// # Contract
-    ///
-    /// ```text
-    /// ensures { result ≡ keys_of pairs.now }
-    /// ```
     pub(super) fn new(pairs: &'a [(K, V)]) -> Self {
         Keys {
             pairs: pairs.iter(),
@@ -112,16 +92,6 @@ impl<'a, K, V> Iterator for Keys<'a, K, V> {
     }
 
     /// The number of keys that are left, as the lower and as the upper bound.
-    ///
-    /// # Contract
-    ///
-    /// [`contracts`](crate::kernels::contracts) explains how to read this contract.
-    ///
-    /// ```text
-    /// ensures lower { IsWithinCount result.0 (at_most (length self.now)) }
-    /// ensures upper { IfSome result.1 (UpTo (at_most (length self.now))) }
-    /// ensures exact { result ≡ (length self.now, Some (length self.now)) }
-    /// ```
     fn size_hint(&self) -> (usize, Option<usize>) {
         let keys = self.len();
         (keys, Some(keys))
@@ -160,11 +130,6 @@ impl<'a, K, V> Clone for Values<'a, K, V> {
 }
 
 impl<'a, K, V> Values<'a, K, V> {
-    /// # Contract
-    ///
-    /// ```text
-    /// ensures { result ≡ values_of pairs.now }
-    /// ```
     pub(super) fn new(pairs: &'a [(K, V)]) -> Self {
         Values {
             pairs: pairs.iter(),
@@ -181,16 +146,6 @@ impl<'a, K, V> Iterator for Values<'a, K, V> {
     }
 
     /// The number of values that are left, as the lower and as the upper bound.
-    ///
-    /// # Contract
-    ///
-    /// [`contracts`](crate::kernels::contracts) explains how to read this contract.
-    ///
-    /// ```text
-    /// ensures lower { IsWithinCount result.0 (at_most (length self.now)) }
-    /// ensures upper { IfSome result.1 (UpTo (at_most (length self.now))) }
-    /// ensures exact { result ≡ (length self.now, Some (length self.now)) }
-    /// ```
     fn size_hint(&self) -> (usize, Option<usize>) {
         let values = self.len();
         (values, Some(values))

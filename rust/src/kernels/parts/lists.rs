@@ -7,15 +7,6 @@ use crate::kernels::parts::{ReversalPlan, TransposePlan};
 /// A list that the parts of a call share. A place has the same index in a share as in the list.
 pub(crate) trait Shared {
     /// A share of the list for the next part.
-    ///
-    /// # Contract
-    ///
-    /// ```text
-    /// ensures len { len result ≡ len self.old }
-    /// ensures bytes { bytes result ≡ bytes self.old }
-    /// ensures len_left { len self.new ≡ len self.old }
-    /// ensures bytes_left { bytes self.new ≡ bytes self.old }
-    /// ```
     fn share(&mut self) -> Self
     where
         Self: Sized,;
@@ -47,17 +38,6 @@ pub(crate) struct PartToRun<L: Shared, P: Plan, I: Given<P>> {
 
 impl<L: Shared, P: Plan, I: Given<P>> PartsToRun<L, P, I> {
     /// All parts of a call on this list.
-    ///
-    /// # Contract
-    ///
-    /// ```text
-    /// requires { I.is_for plan given (L.len list) (L.bytes list) }
-    /// ensures list { result.list ≡ list }
-    /// ensures plan { result.left.plan ≡ plan }
-    /// ensures first { result.left.next ≡ 0 }
-    /// ensures last { result.left.end ≡ P.parts plan }
-    /// ensures given { result.given ≡ given }
-    /// ```
     pub(crate) fn of(list: L, plan: P, given: I) -> Self {
         PartsToRun {
             list,
@@ -67,34 +47,11 @@ impl<L: Shared, P: Plan, I: Given<P>> PartsToRun<L, P, I> {
     }
 
     /// The number of parts that are left.
-    ///
-    /// # Contract
-    ///
-    /// ```text
-    /// ensures { self.now.left.next + result ≡ self.now.left.end }
-    /// ```
     pub(crate) fn count(&self) -> usize {
         self.left.count()
     }
 
     /// Hands out the next part. Each call that returns a part returns the one with the next number.
-    ///
-    /// # Contract
-    ///
-    /// ```text
-    /// ensures plan { self.new.left.plan ≡ self.old.left.plan }
-    /// ensures last { self.new.left.end ≡ self.old.left.end }
-    /// ensures given { self.new.given ≡ self.old.given }
-    /// ensures len { L.len self.new.list ≡ L.len self.old.list }
-    /// ensures bytes { L.bytes self.new.list ≡ L.bytes self.old.list }
-    /// ensures share { IfSome result (λ next. (L.len next.share ≡ L.len self.old.list)
-    ///     × (L.bytes next.share ≡ L.bytes self.old.list)) }
-    /// ensures some { IfSome result (λ next. (next.part.plan ≡ self.old.left.plan)
-    ///     × (next.part.number ≡ self.old.left.next) × (next.given ≡ self.old.given)
-    ///     × (self.new.left.next ≡ self.old.left.next + 1)) }
-    /// ensures none { IfNone result ((self.old.left.next ≡ self.old.left.end)
-    ///     × (self.new.left.next ≡ self.old.left.next)) }
-    /// ```
     pub(crate) fn hand_out(&mut self) -> Option<PartToRun<L, P, I>> {
         let part = self.left.hand_out()?;
         Some(PartToRun {
@@ -107,27 +64,11 @@ impl<L: Shared, P: Plan, I: Given<P>> PartsToRun<L, P, I> {
 
 impl<L: Shared, P: Plan, I: Given<P>> PartToRun<L, P, I> {
     /// The number of the part.
-    ///
-    /// # Contract
-    ///
-    /// ```text
-    /// ensures number { result ≡ self.now.part.number }
-    /// ensures below { result < P.parts self.now.part.plan }
-    /// ```
     pub(crate) fn number(&self) -> usize {
         self.part.number()
     }
 
     /// The share of the list, what the part is given, and the part itself.
-    ///
-    /// # Contract
-    ///
-    /// ```text
-    /// ensures fits { ∥ I.is_for result.2.plan result.1 (L.len result.0) (L.bytes result.0) ∥₁ }
-    /// ensures share { result.0 ≡ self.share }
-    /// ensures given { result.1 ≡ self.given }
-    /// ensures part { result.2 ≡ self.part }
-    /// ```
     pub(crate) fn taken(self) -> (L, I, Part<P>) {
         (self.share, self.given, self.part)
     }

@@ -4,12 +4,6 @@
 /// How a call is cut into parts. They have the numbers below [`count`](Plan::count).
 pub(crate) trait Plan: Copy {
     /// The number of parts.
-    ///
-    /// # Contract
-    ///
-    /// ```text
-    /// ensures { result ≡ parts self }
-    /// ```
     fn count(self) -> usize;
 }
 
@@ -29,14 +23,6 @@ pub(crate) struct PartsLeft<P: Plan> {
 
 impl<P: Plan> PartsLeft<P> {
     /// All parts of a plan.
-    ///
-    /// # Contract
-    ///
-    /// ```text
-    /// ensures plan { result.plan ≡ plan }
-    /// ensures first { result.next ≡ 0 }
-    /// ensures last { result.end ≡ P.parts plan }
-    /// ```
     pub(crate) fn of(plan: P) -> Self {
         PartsLeft {
             plan,
@@ -46,27 +32,11 @@ impl<P: Plan> PartsLeft<P> {
     }
 
     /// The number of parts that are left.
-    ///
-    /// # Contract
-    ///
-    /// ```text
-    /// ensures { self.now.next + result ≡ self.now.end }
-    /// ```
     pub(crate) fn count(&self) -> usize {
         self.end - self.next
     }
 
     /// Hands out the next part. Each call that returns a part returns the one with the next number.
-    ///
-    /// # Contract
-    ///
-    /// ```text
-    /// ensures plan { self.new.plan ≡ self.old.plan }
-    /// ensures last { self.new.end ≡ self.old.end }
-    /// ensures some { IfSome result (λ part. (part.plan ≡ self.old.plan)
-    ///     × (part.number ≡ self.old.next) × (self.new.next ≡ self.old.next + 1)) }
-    /// ensures none { IfNone result ((self.old.next ≡ self.old.end) × (self.new.next ≡ self.old.next)) }
-    /// ```
     pub(crate) fn hand_out(&mut self) -> Option<Part<P>> {
         if self.next == self.end {
             return None;
@@ -82,13 +52,6 @@ impl<P: Plan> PartsLeft<P> {
 
 impl<P: Plan> Part<P> {
     /// The number of the part.
-    ///
-    /// # Contract
-    ///
-    /// ```text
-    /// ensures number { result ≡ self.now.number }
-    /// ensures below { result < P.parts self.now.plan }
-    /// ```
     pub(crate) fn number(&self) -> usize {
         self.number
     }

@@ -21,20 +21,6 @@ impl TransposePlan {
     /// Cuts the longer side into at most `parts` parts, at multiples of `UNIT`. If
     /// `may_cut_rows` is false, the columns are cut, whichever side is longer. A `parts` of 0
     /// counts as 1. A matrix without items has no region.
-    ///
-    /// # Contract
-    ///
-    /// ```text
-    /// requires { width * height < 2 ^ 64 }
-    /// ensures width { result.width ≡ width }
-    /// ensures height { result.height ≡ height }
-    /// ensures by_rows { IsTrue result.by_rows ↔ (IsTrue may_cut_rows × (width < height)) }
-    /// ensures empty { width * height ≡ 0 → parts_in result.cut.len result.cut.part_len ≡ 0 }
-    /// ensures few { parts_in result.cut.len result.cut.part_len ≤ max parts 1 }
-    /// ensures least { IsLeastPartLen parts UNIT result.cut.len result.cut.part_len }
-    /// ensures units { (k : ℕ) → k < parts_in result.cut.len result.cut.part_len
-    ///     → start_of result.cut.len result.cut.part_len k % UNIT ≡ 0 }
-    /// ```
     pub(crate) fn new(width: usize, height: usize, parts: usize, may_cut_rows: bool) -> TransposePlan {
         let by_rows = may_cut_rows && height > width;
         let side = if width == 0 || height == 0 {
@@ -53,15 +39,6 @@ impl TransposePlan {
     }
 
     /// Region `number`.
-    ///
-    /// # Contract
-    ///
-    /// ```text
-    /// requires { number < parts_in self.cut.len self.cut.part_len }
-    /// ensures region { result ≡ part_of_matrix self.width self.height self.by_rows self.cut.len
-    ///     self.cut.part_len number }
-    /// ensures inside { LiesInMatrix result self.width self.height }
-    /// ```
     pub(crate) fn region(self, number: usize) -> Region {
         let (from, to) = self.cut.part(number);
         if self.by_rows {
@@ -83,14 +60,6 @@ impl TransposePlan {
 
     /// The number of items of region `number`. If the columns are cut, the items of a region fill
     /// consecutive cells, right after the cells of the region before it.
-    ///
-    /// # Contract
-    ///
-    /// ```text
-    /// requires { number < parts_in self.cut.len self.cut.part_len }
-    /// ensures { result ≡ items_of (part_of_matrix self.width self.height self.by_rows self.cut.len
-    ///     self.cut.part_len number) }
-    /// ```
     pub(crate) fn items(self, number: usize) -> usize {
         let region = self.region(number);
         region.rows() * region.cols()
@@ -98,13 +67,6 @@ impl TransposePlan {
 
     /// How many cells each region fills if the columns are cut. They are next to each other, and right after those of the region
     /// before it. The last region may fill fewer.
-    ///
-    /// # Contract
-    ///
-    /// ```text
-    /// ensures { self.by_rows ≡ false → (k : ℕ) → k < parts_in self.cut.len self.cut.part_len
-    ///     → start_of self.cut.len self.cut.part_len k * self.height ≡ k * result }
-    /// ```
     pub(crate) fn cells_of_region(self) -> usize {
         if self.cut.count() == 0 {
             0
@@ -123,27 +85,11 @@ impl Plan for TransposePlan {
 
 impl Part<TransposePlan> {
     /// The region of the part.
-    ///
-    /// # Contract
-    ///
-    /// ```text
-    /// ensures region { let plan = self.now.plan in result ≡ part_of_matrix plan.width plan.height plan.by_rows
-    ///     plan.cut.len plan.cut.part_len self.now.number }
-    /// ensures inside { LiesInMatrix result self.now.plan.width self.now.plan.height }
-    /// ```
     pub(crate) fn region(&self) -> Region {
         self.plan.region(self.number)
     }
 
     /// The matrix of the call, with its items.
-    ///
-    /// # Contract
-    ///
-    /// ```text
-    /// ensures source { result.source ≡ source }
-    /// ensures width { result.width ≡ self.now.plan.width }
-    /// ensures height { result.height ≡ self.now.plan.height }
-    /// ```
     pub(crate) fn matrix<R: Source + Copy>(&self, source: R) -> Matrix<R> {
         Matrix::new(source, self.plan.width, self.plan.height)
     }

@@ -19,29 +19,11 @@ pub struct Swaps<S> {
 
 impl<S: Places> Swaps<S> {
     /// A counter around `holder` that starts at 0.
-    ///
-    /// # Contract
-    ///
-    /// [`contracts`](crate::kernels::contracts) explains how to read this contract.
-    ///
-    /// ```text
-    /// ensures holder { result.holder ≡ holder }
-    /// ensures count { result.count ≡ 0 }
-    /// ensures len_fits { length (S.items holder) < 2 ^ 64 }
-    /// ```
     pub fn new(holder: S) -> Self {
         Swaps::resumed(holder, 0)
     }
 
     /// A counter around `holder` that starts at `count`.
-    ///
-    /// # Contract
-    ///
-    /// ```text
-    /// ensures holder { result.holder ≡ holder }
-    /// ensures count { result.count ≡ count }
-    /// ensures len_fits { length (S.items holder) < 2 ^ 64 }
-    /// ```
     #[inline(always)]
     pub(crate) fn resumed(holder: S, count: u128) -> Self {
         len_fits(holder.len());
@@ -49,32 +31,12 @@ impl<S: Places> Swaps<S> {
     }
 
     /// The number of places.
-    ///
-    /// # Contract
-    ///
-    /// [`contracts`](crate::kernels::contracts) explains how to read this contract.
-    ///
-    /// ```text
-    /// ensures { result ≡ length (S.items self.now.holder) }
-    /// ```
     pub fn len(&self) -> usize {
         self.holder.len()
     }
 
     /// Makes one swap: the holder inside exchanges the items at places `i` and `j`, and the counter
     /// counts this.
-    ///
-    /// # Contract
-    ///
-    /// [`contracts`](crate::kernels::contracts) explains how to read this contract.
-    ///
-    /// ```text
-    /// requires first { i < length (S.items self.old.holder) }
-    /// requires second { j < length (S.items self.old.holder) }
-    /// ensures exchanged { S.items self.new.holder ≡ swap (S.items self.old.holder) i j }
-    /// ensures count { self.new.count ≡ counted self.old.count 1 }
-    /// ensures holder { S.same_holder 1 self.old.holder self.new.holder }
-    /// ```
     #[inline(always)]
     pub fn swap(&mut self, i: usize, j: usize) {
         self.holder.exchange(i, j);
@@ -82,27 +44,11 @@ impl<S: Places> Swaps<S> {
     }
 
     /// The number of swaps so far, at most `u128::MAX`.
-    ///
-    /// # Contract
-    ///
-    /// [`contracts`](crate::kernels::contracts) explains how to read this contract.
-    ///
-    /// ```text
-    /// ensures { result ≡ self.now.count }
-    /// ```
     pub fn swaps(&self) -> u128 {
         self.count
     }
 
     /// Returns the holder inside, without the count.
-    ///
-    /// # Contract
-    ///
-    /// [`contracts`](crate::kernels::contracts) explains how to read this contract.
-    ///
-    /// ```text
-    /// ensures { result ≡ self.holder }
-    /// ```
     pub fn into_inner(self) -> S {
         let Swaps { holder, count: _ } = self;
         holder
@@ -118,29 +64,11 @@ pub struct Writes<C> {
 
 impl<C: Cells> Writes<C> {
     /// A counter around `holder` that starts at 0.
-    ///
-    /// # Contract
-    ///
-    /// [`contracts`](crate::kernels::contracts) explains how to read this contract.
-    ///
-    /// ```text
-    /// ensures holder { result.holder ≡ holder }
-    /// ensures count { result.count ≡ 0 }
-    /// ensures len_fits { length (C.items holder) < 2 ^ 64 }
-    /// ```
     pub fn new(holder: C) -> Self {
         Writes::resumed(holder, 0)
     }
 
     /// A counter around `holder` that starts at `count`.
-    ///
-    /// # Contract
-    ///
-    /// ```text
-    /// ensures holder { result.holder ≡ holder }
-    /// ensures count { result.count ≡ count }
-    /// ensures len_fits { length (C.items holder) < 2 ^ 64 }
-    /// ```
     #[inline(always)]
     pub(crate) fn resumed(holder: C, count: u128) -> Self {
         len_fits(holder.len());
@@ -148,30 +76,11 @@ impl<C: Cells> Writes<C> {
     }
 
     /// The number of cells.
-    ///
-    /// # Contract
-    ///
-    /// [`contracts`](crate::kernels::contracts) explains how to read this contract.
-    ///
-    /// ```text
-    /// ensures { result ≡ length (C.items self.now.holder) }
-    /// ```
     pub fn len(&self) -> usize {
         self.holder.len()
     }
 
     /// Makes one write: the holder inside puts `v` into cell `i`, and the counter counts this.
-    ///
-    /// # Contract
-    ///
-    /// [`contracts`](crate::kernels::contracts) explains how to read this contract.
-    ///
-    /// ```text
-    /// requires { i < length (C.items self.old.holder) }
-    /// ensures written { C.items self.new.holder ≡ slice_set (C.items self.old.holder) i v }
-    /// ensures count { self.new.count ≡ counted self.old.count 1 }
-    /// ensures holder { C.same_holder 1 self.old.holder self.new.holder }
-    /// ```
     #[inline(always)]
     pub fn put(&mut self, i: usize, v: C::Item) {
         self.holder.put(i, v);
@@ -179,27 +88,11 @@ impl<C: Cells> Writes<C> {
     }
 
     /// The number of writes so far, at most `u128::MAX`.
-    ///
-    /// # Contract
-    ///
-    /// [`contracts`](crate::kernels::contracts) explains how to read this contract.
-    ///
-    /// ```text
-    /// ensures { result ≡ self.now.count }
-    /// ```
     pub fn writes(&self) -> u128 {
         self.count
     }
 
     /// Returns the holder inside, without the count.
-    ///
-    /// # Contract
-    ///
-    /// [`contracts`](crate::kernels::contracts) explains how to read this contract.
-    ///
-    /// ```text
-    /// ensures { result ≡ self.holder }
-    /// ```
     pub fn into_inner(self) -> C {
         let Writes { holder, count: _ } = self;
         holder

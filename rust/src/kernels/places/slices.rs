@@ -15,14 +15,6 @@ pub struct SlicePlaces<'a, F> {
 
 impl<'a, F> SlicePlaces<'a, F> {
     /// A holder for the slice `items`. Place `i` is index `i` of the slice.
-    ///
-    /// # Contract
-    ///
-    /// [`contracts`](crate::kernels::contracts) explains how to read this contract.
-    ///
-    /// ```text
-    /// ensures { result.items ≡ items.entry }
-    /// ```
     pub fn new(items: &'a mut [F]) -> Self {
         SlicePlaces { items }
     }
@@ -47,15 +39,6 @@ impl<'a, F> Places for SlicePlaces<'a, F> {
 }
 
 /// Exchanges two runs of `len` items: those from place `i` on and those from place `j` on.
-///
-/// # Contract
-///
-/// ```text
-/// requires apart { (i + len ≤ j) ⊎ (j + len ≤ i) }
-/// requires first { i + len ≤ length items.old }
-/// requires second { j + len ≤ length items.old }
-/// ensures { RunsExchanged i j len items.old items.new }
-/// ```
 #[inline(always)]
 fn exchange_runs_of_items<F>(items: &mut [F], i: usize, j: usize, len: usize) {
     let (low, high) = (i.min(j), i.max(j));
@@ -72,14 +55,6 @@ pub struct SliceCells<'a, T> {
 
 impl<'a, T: Copy> SliceCells<'a, T> {
     /// A holder for the slice `values`. Cell `i` is index `i` of the slice.
-    ///
-    /// # Contract
-    ///
-    /// [`contracts`](crate::kernels::contracts) explains how to read this contract.
-    ///
-    /// ```text
-    /// ensures { result.values ≡ values.entry }
-    /// ```
     pub fn new(values: &'a mut [T]) -> Self {
         SliceCells { values }
     }
@@ -115,13 +90,6 @@ impl<'a, T: Copy> Cells for SliceCells<'a, T> {
 }
 
 /// Puts a block item by item.
-///
-/// # Contract
-///
-/// ```text
-/// requires { BlockFits block (length (R.items source.now)) (length values.old) }
-/// ensures { IsBlockPut (block_items block) block (R.items source.now) values.old values.new }
-/// ```
 #[inline(always)]
 fn put_items<R: Source>(values: &mut [R::Item], source: &R, block: Block) {
     let Block {
@@ -141,15 +109,6 @@ fn put_items<R: Source>(values: &mut [R::Item], source: &R, block: Block) {
 }
 
 /// Puts a block of 4 rows.
-///
-/// # Contract
-///
-/// ```text
-/// requires rows { block.rows ≡ 4 }
-/// requires cols { 0 < block.cols }
-/// requires fits { BlockFits block (length items.now) (length values.old) }
-/// ensures { IsBlockPut (block_items block) block items.now values.old values.new }
-/// ```
 #[inline(always)]
 fn put_four<T: Copy>(values: &mut [T], items: &[T], block: Block) {
     let rows = [
@@ -162,15 +121,6 @@ fn put_four<T: Copy>(values: &mut [T], items: &[T], block: Block) {
 }
 
 /// Puts a block of 8 rows.
-///
-/// # Contract
-///
-/// ```text
-/// requires rows { block.rows ≡ 8 }
-/// requires cols { 0 < block.cols }
-/// requires fits { BlockFits block (length items.now) (length values.old) }
-/// ensures { IsBlockPut (block_items block) block items.now values.old values.new }
-/// ```
 #[inline(always)]
 fn put_eight<T: Copy>(values: &mut [T], items: &[T], block: Block) {
     let rows = [
@@ -187,15 +137,6 @@ fn put_eight<T: Copy>(values: &mut [T], items: &[T], block: Block) {
 }
 
 /// Puts a block of 16 rows.
-///
-/// # Contract
-///
-/// ```text
-/// requires rows { block.rows ≡ 16 }
-/// requires cols { 0 < block.cols }
-/// requires fits { BlockFits block (length items.now) (length values.old) }
-/// ensures { IsBlockPut (block_items block) block items.now values.old values.new }
-/// ```
 #[inline(always)]
 fn put_sixteen<T: Copy>(values: &mut [T], items: &[T], block: Block) {
     let rows = [
@@ -220,16 +161,6 @@ fn put_sixteen<T: Copy>(values: &mut [T], items: &[T], block: Block) {
 }
 
 /// Row `r` of a block.
-///
-/// # Contract
-///
-/// ```text
-/// requires row { r < block.rows }
-/// requires some { 0 < block.cols }
-/// requires inside { (s c : ℕ) → s < block.rows → c < block.cols
-///     → block.from + s * block.width + c < length items.now }
-/// ensures { result.now ≡ take block.cols (drop (block.from + r * block.width) items.now) }
-/// ```
 #[inline(always)]
 fn row_of<T>(items: &[T], block: Block, r: usize) -> &[T] {
     let start = block.from + r * block.width;
@@ -238,16 +169,6 @@ fn row_of<T>(items: &[T], block: Block, r: usize) -> &[T] {
 
 /// Puts a block that has these rows, column after column. One test is made for each column, and none
 /// for a single item.
-///
-/// # Contract
-///
-/// ```text
-/// requires some { 0 < block.rows }
-/// requires count { length rows.now ≡ block.rows }
-/// requires rows { AreRows block 0 items.now rows.now }
-/// requires fits { BlockFits block (length items.now) (length values.old) }
-/// ensures { IsBlockPut (block_items block) block items.now values.old values.new }
-/// ```
 #[inline(always)]
 fn put_rows<T: Copy>(values: &mut [T], items: &[T], rows: &[&[T]], block: Block) {
     len_fits(items.len() as usize);
@@ -258,16 +179,6 @@ fn put_rows<T: Copy>(values: &mut [T], items: &[T], rows: &[&[T]], block: Block)
 }
 
 /// Puts item `col` of each row.
-///
-/// # Contract
-///
-/// ```text
-/// requires count { length column.old ≡ length rows.now }
-/// requires long { (r : ℕ) → r < length rows.now → IfSome (slice_get rows.now r) (λ row. col < length row.now) }
-/// ensures same_length { length column.new ≡ length rows.now }
-/// ensures put { (r : ℕ) → r < length rows.now
-///     → IfSome (slice_get rows.now r) (λ row. slice_get column.new r ≡ slice_get row.now col) }
-/// ```
 #[inline(always)]
 fn put_column<T: Copy>(column: &mut [T], rows: &[&[T]], col: usize) {
     for r in 0..rows.len() as usize {
@@ -285,14 +196,6 @@ pub struct SliceSource<'a, T> {
 
 impl<'a, T: Copy> SliceSource<'a, T> {
     /// A source of the items of `slice`, in order.
-    ///
-    /// # Contract
-    ///
-    /// [`contracts`](crate::kernels::contracts) explains how to read this contract.
-    ///
-    /// ```text
-    /// ensures { result.slice ≡ slice.entry }
-    /// ```
     pub fn new(slice: &'a [T]) -> Self {
         SliceSource { slice }
     }

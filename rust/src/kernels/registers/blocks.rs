@@ -20,34 +20,12 @@ pub(crate) trait SquaresOfCells<T: Copy, D: Register<T>>: RunsOfCells<T, D> {
 /// Cells into which some blocks are put by whole lines, past the caches.
 pub(crate) trait LinesOfCells<T: Copy, D: Register<T>>: RunsOfCells<T, D> {
     /// Whether each column of a block of this many rows is a line that may be streamed.
-    ///
-    /// # Contract
-    ///
-    /// ```text
-    /// requires lines { block.rows ≡ 4 * D.SIDE }
-    /// requires room { (r c : ℕ) → r < block.rows → c < block.cols
-    ///     → block.to + c * block.height + r < length (Self.Runs.items self.now) }
-    /// ensures { IsTrue result → LinesReached D.SIDE block (Self.Runs.may_stream (Self.Runs.reach self.now)) }
-    /// ```
     fn may_stream_lines(&self, block: Block) -> bool;
 }
 
 /// Does what `Cells::put_block` does: by squares if the block is one that the holder transposes in registers, and otherwise item
 /// by item. Registers are read from `runs`, which has the items of the source. A holder may read each run of these, and put each
 /// run that is within a column of the block.
-///
-/// # Contract
-///
-/// ```text
-/// requires same { S.items runs.now ≡ R.items source.now }
-/// requires fits { BlockFits block (length (R.items source.now)) (length (M.Cells.items cells.old)) }
-/// requires reads { (p : ℕ) → p + D.SIDE ≤ length (R.items source.now) → S.may (S.reach runs.now) p }
-/// requires writes { (c r : ℕ) → c < block.cols → r + D.SIDE ≤ block.rows
-///     → M.Runs.may (M.Runs.reach cells.old) (block.to + c * block.height + r) }
-/// ensures put { IsBlockPut (block_items block) block (R.items source.now)
-///     (M.Cells.items cells.old) (M.Cells.items cells.new) }
-/// ensures holder { M.Cells.same_holder (block_items block) cells.old cells.new }
-/// ```
 #[inline(always)]
 pub(crate) fn put_block_in_squares<
     T: Copy,
@@ -72,17 +50,6 @@ pub(crate) fn put_block_in_squares<
 
 /// Does what `Cells::put_block` does: by whole lines if the holder may stream the lines of the block, and otherwise item by item.
 /// Registers are read from `runs`, which has the items of the source. A holder may read each run of these.
-///
-/// # Contract
-///
-/// ```text
-/// requires same { S.items runs.now ≡ R.items source.now }
-/// requires fits { BlockFits block (length (R.items source.now)) (length (M.Cells.items cells.old)) }
-/// requires reads { (p : ℕ) → p + D.SIDE ≤ length (R.items source.now) → S.may (S.reach runs.now) p }
-/// ensures put { IsBlockPut (block_items block) block (R.items source.now)
-///     (M.Cells.items cells.old) (M.Cells.items cells.new) }
-/// ensures holder { M.Cells.same_holder (block_items block) cells.old cells.new }
-/// ```
 #[inline(always)]
 pub(crate) fn put_block_in_lines<
     T: Copy,
@@ -101,19 +68,6 @@ pub(crate) fn put_block_in_lines<
 
 /// Does what `Cells::put_block` does: as [`put_block_in_squares`] if there are `runs`, which have the items of the source,
 /// and otherwise item by item.
-///
-/// # Contract
-///
-/// ```text
-/// requires same { IfSome runs (λ runs. S.items runs.now ≡ R.items source.now) }
-/// requires fits { BlockFits block (length (R.items source.now)) (length (M.Cells.items cells.old)) }
-/// requires reads { IfSome runs (λ runs. (p : ℕ) → p + D.SIDE ≤ length (R.items source.now) → S.may (S.reach runs.now) p) }
-/// requires writes { (c r : ℕ) → c < block.cols → r + D.SIDE ≤ block.rows
-///     → M.Runs.may (M.Runs.reach cells.old) (block.to + c * block.height + r) }
-/// ensures put { IsBlockPut (block_items block) block (R.items source.now)
-///     (M.Cells.items cells.old) (M.Cells.items cells.new) }
-/// ensures holder { M.Cells.same_holder (block_items block) cells.old cells.new }
-/// ```
 #[inline(always)]
 pub(crate) fn put_in_squares_if_runs<
     T: Copy,
@@ -130,17 +84,6 @@ pub(crate) fn put_in_squares_if_runs<
 
 /// Does what `Cells::put_block` does: as [`put_block_in_lines`] if there are `runs`, which have the items of the source,
 /// and otherwise item by item.
-///
-/// # Contract
-///
-/// ```text
-/// requires same { IfSome runs (λ runs. S.items runs.now ≡ R.items source.now) }
-/// requires fits { BlockFits block (length (R.items source.now)) (length (M.Cells.items cells.old)) }
-/// requires reads { IfSome runs (λ runs. (p : ℕ) → p + D.SIDE ≤ length (R.items source.now) → S.may (S.reach runs.now) p) }
-/// ensures put { IsBlockPut (block_items block) block (R.items source.now)
-///     (M.Cells.items cells.old) (M.Cells.items cells.new) }
-/// ensures holder { M.Cells.same_holder (block_items block) cells.old cells.new }
-/// ```
 #[inline(always)]
 pub(crate) fn put_in_lines_if_runs<
     T: Copy,
@@ -157,17 +100,6 @@ pub(crate) fn put_in_lines_if_runs<
 
 /// Whether a block has the rows and columns of whole lines, and a source of `len` items has `side` items of each row, from the
 /// block's first column on.
-///
-/// # Contract
-///
-/// ```text
-/// requires inside { (r c : ℕ) → r < block.rows → c < block.cols → block.from + r * block.width + c < len }
-/// requires len_fits { len < 2 ^ 63 }
-/// ensures side { IsTrue result → (side ≡ 1) ⊎ ((side ≡ 2) ⊎ (side ≡ 4)) }
-/// ensures lines { IsTrue result → block.rows ≡ 4 * side }
-/// ensures cols { IsTrue result → (block.cols ≡ 1) ⊎ (block.cols ≡ block.rows) }
-/// ensures inside { IsTrue result → (r : ℕ) → r < block.rows → block.from + r * block.width + side ≤ len }
-/// ```
 #[inline(always)]
 fn is_of_lines(side: usize, block: Block, len: usize) -> bool {
     if side != 1 && side != 2 && side != 4 || block.rows != 4 * side {
@@ -178,15 +110,6 @@ fn is_of_lines(side: usize, block: Block, len: usize) -> bool {
 }
 
 /// Whether a block has `square` rows and columns, and registers whose halves have `side` items transpose it.
-///
-/// # Contract
-///
-/// ```text
-/// ensures side { IsTrue result → IsSide side }
-/// ensures known { IsTrue result → (block.rows ≡ 4) ⊎ (block.rows ≡ 8) }
-/// ensures square { IsTrue result → block.cols ≡ block.rows }
-/// ensures below { IsTrue result → side ≤ block.rows }
-/// ```
 #[inline(always)]
 fn is_square(side: usize, square: usize, block: Block) -> bool {
     block.cols == block.rows
@@ -197,15 +120,6 @@ fn is_square(side: usize, square: usize, block: Block) -> bool {
 }
 
 /// Puts a block item by item.
-///
-/// # Contract
-///
-/// ```text
-/// requires { BlockFits block (length (R.items source.now)) (length (C.items cells.old)) }
-/// ensures put { IsBlockPut (block_items block) block (R.items source.now)
-///     (C.items cells.old) (C.items cells.new) }
-/// ensures holder { C.same_holder (block_items block) cells.old cells.new }
-/// ```
 #[inline(always)]
 pub(crate) fn put_singly<C: Cells, R: Source<Item = C::Item>>(
     cells: &mut C,

@@ -7,16 +7,6 @@ use crate::kernels::places::Block;
 
 /// Reads 8 rows, from place `from` on, and transposes them. The registers hold the columns, of 8 items
 /// each, one after another.
-///
-/// # Contract
-///
-/// ```text
-/// requires side { (D.SIDE ≡ 2) ⊎ (D.SIDE ≡ 4) }
-/// requires inside { (r : ℕ) → r < 8 → from + r * width + D.SIDE ≤ length (S.items list.now) }
-/// requires len_fits { length (S.items list.now) < 2 ^ 63 }
-/// requires reached { (r : ℕ) → r < 8 → S.may (S.reach list.now) (from + r * width) }
-/// ensures { AreLines D.SIDE from width (S.items list.now) (items_of_four D.items result) }
-/// ```
 #[inline(always)]
 fn load_lines<T, D: Register<T>, S: Runs<T, D>>(list: &S, from: usize, width: usize) -> Four<D> {
     let one = load(list, starts(from, width, 8));
@@ -25,17 +15,6 @@ fn load_lines<T, D: Register<T>, S: Runs<T, D>>(list: &S, from: usize, width: us
 }
 
 /// Writes the first half of a register from place `first` on, and then the second half from place `second` on.
-///
-/// # Contract
-///
-/// ```text
-/// requires apart { (first + D.SIDE ≤ second) ⊎ (second + D.SIDE ≤ first) }
-/// requires first { M.may_stream (M.reach list.old) first }
-/// requires second { M.may_stream (M.reach list.old) second }
-/// ensures stored { IsStored D.SIDE first second (D.items rows) (M.items list.old) (M.items list.new) }
-/// ensures reach { M.reach list.new ≡ M.reach list.old }
-/// ensures holder { M.same_holder (2 * D.SIDE) list.old list.new }
-/// ```
 #[inline(always)]
 fn stream_two<T, D: Register<T>, M: Runs<T, D>>(list: &mut M, first: usize, second: usize, rows: D) {
     let (a, b) = rows.halves();
@@ -44,20 +23,6 @@ fn stream_two<T, D: Register<T>, M: Runs<T, D>>(list: &mut M, first: usize, seco
 }
 
 /// Stores two registers, one after the other, where column `col` of a block is put.
-///
-/// # Contract
-///
-/// ```text
-/// requires some_side { 0 < D.SIDE }
-/// requires line { block.rows ≡ 4 * D.SIDE }
-/// requires room { (r : ℕ) → r < block.rows → block.to + col * block.height + r < length (M.items list.old) }
-/// requires len_fits { length (M.items list.old) < 2 ^ 63 }
-/// requires reached { (k : ℕ) → k < 4 → M.may_stream (M.reach list.old) (block.to + col * block.height + k * D.SIDE) }
-/// ensures stored { IsRunStored block.rows (block.to + col * block.height) (D.items a ++ D.items b)
-///     (M.items list.old) (M.items list.new) }
-/// ensures reach { M.reach list.new ≡ M.reach list.old }
-/// ensures holder { M.same_holder block.rows list.old list.new }
-/// ```
 #[inline(always)]
 fn put_line<T, D: Register<T>, M: Runs<T, D>>(list: &mut M, block: Block, col: usize, a: D, b: D) {
     let side = D::SIDE;
@@ -67,22 +32,6 @@ fn put_line<T, D: Register<T>, M: Runs<T, D>>(list: &mut M, block: Block, col: u
 }
 
 /// Puts `D::SIDE` columns of a block, from column `col` on. Each is stored from its first cell to its last.
-///
-/// # Contract
-///
-/// ```text
-/// requires some_side { (D.SIDE ≡ 2) ⊎ (D.SIDE ≡ 4) }
-/// requires lines { block.rows ≡ 4 * D.SIDE }
-/// requires below { col + D.SIDE ≤ block.cols }
-/// requires block { BlockFits block (length (S.items source.now)) (length (M.items cells.old)) }
-/// requires reads { ColumnsReached D.SIDE block (S.may (S.reach source.now)) }
-/// requires writes { LinesReached D.SIDE block (M.may_stream (M.reach cells.old)) }
-/// requires source_len_fits { length (S.items source.now) < 2 ^ 63 }
-/// requires cells_len_fits { length (M.items cells.old) < 2 ^ 63 }
-/// ensures put { ColumnsPut col (col + D.SIDE) block (S.items source.now) (M.items cells.old) (M.items cells.new) }
-/// ensures reach { M.reach cells.new ≡ M.reach cells.old }
-/// ensures holder { M.same_holder (block.rows * D.SIDE) cells.old cells.new }
-/// ```
 #[inline(never)]
 fn put_some_lines<T, D: Register<T>, S: Runs<T, D>, M: Runs<T, D>>(
     cells: &mut M,
@@ -106,23 +55,6 @@ fn put_some_lines<T, D: Register<T>, S: Runs<T, D>, M: Runs<T, D>>(
 }
 
 /// Puts a block of one column. Of each row, the registers have some items to the right of this column too.
-///
-/// # Contract
-///
-/// ```text
-/// requires some_side { (D.SIDE ≡ 2) ⊎ (D.SIDE ≡ 4) }
-/// requires lines { block.rows ≡ 4 * D.SIDE }
-/// requires one { block.cols ≡ 1 }
-/// requires inside { (r : ℕ) → r < block.rows → block.from + r * block.width + D.SIDE ≤ length (S.items source.now) }
-/// requires room { block.to + block.rows ≤ length (M.items cells.old) }
-/// requires reads { ColumnsReached D.SIDE block (S.may (S.reach source.now)) }
-/// requires writes { LinesReached D.SIDE block (M.may_stream (M.reach cells.old)) }
-/// requires source_len_fits { length (S.items source.now) < 2 ^ 63 }
-/// requires cells_len_fits { length (M.items cells.old) < 2 ^ 63 }
-/// ensures put { ColumnsPut 0 block.cols block (S.items source.now) (M.items cells.old) (M.items cells.new) }
-/// ensures reach { M.reach cells.new ≡ M.reach cells.old }
-/// ensures holder { M.same_holder block.rows cells.old cells.new }
-/// ```
 #[inline(always)]
 fn put_one_line<T, D: Register<T>, S: Runs<T, D>, M: Runs<T, D>>(
     cells: &mut M,
@@ -140,22 +72,6 @@ fn put_one_line<T, D: Register<T>, S: Runs<T, D>, M: Runs<T, D>>(
 }
 
 /// Puts a column of a block of 4 rows.
-///
-/// # Contract
-///
-/// ```text
-/// requires side { D.SIDE ≡ 1 }
-/// requires lines { block.rows ≡ 4 }
-/// requires below { col < block.cols }
-/// requires block { BlockFits block (length (S.items source.now)) (length (M.items cells.old)) }
-/// requires reads { ColumnsReached D.SIDE block (S.may (S.reach source.now)) }
-/// requires writes { LinesReached D.SIDE block (M.may_stream (M.reach cells.old)) }
-/// requires source_len_fits { length (S.items source.now) < 2 ^ 63 }
-/// requires cells_len_fits { length (M.items cells.old) < 2 ^ 63 }
-/// ensures put { ColumnsPut col (col + 1) block (S.items source.now) (M.items cells.old) (M.items cells.new) }
-/// ensures reach { M.reach cells.new ≡ M.reach cells.old }
-/// ensures holder { M.same_holder block.rows cells.old cells.new }
-/// ```
 #[inline(always)]
 fn put_four<T, D: Register<T>, S: Runs<T, D>, M: Runs<T, D>>(
     cells: &mut M,
@@ -171,21 +87,6 @@ fn put_four<T, D: Register<T>, S: Runs<T, D>, M: Runs<T, D>>(
 
 /// Does what `Cells::put_block` does, for blocks of 4 * `D::SIDE` rows and as many columns, or of one column, column after
 /// column.
-///
-/// # Contract
-///
-/// ```text
-/// requires some_side { (D.SIDE ≡ 1) ⊎ ((D.SIDE ≡ 2) ⊎ (D.SIDE ≡ 4)) }
-/// requires lines { block.rows ≡ 4 * D.SIDE }
-/// requires cols { (block.cols ≡ 1) ⊎ (block.cols ≡ block.rows) }
-/// requires inside { (r : ℕ) → r < block.rows → block.from + r * block.width + D.SIDE ≤ length (S.items source.now) }
-/// requires block { BlockFits block (length (S.items source.now)) (length (M.items cells.old)) }
-/// requires reads { ColumnsReached D.SIDE block (S.may (S.reach source.now)) }
-/// requires writes { LinesReached D.SIDE block (M.may_stream (M.reach cells.old)) }
-/// ensures put { IsBlockPut (block_items block) block (S.items source.now) (M.items cells.old) (M.items cells.new) }
-/// ensures reach { M.reach cells.new ≡ M.reach cells.old }
-/// ensures holder { M.same_holder (block_items block) cells.old cells.new }
-/// ```
 #[inline(always)]
 pub(crate) fn put_by_lines<T, D: Register<T>, S: Runs<T, D>, M: Runs<T, D>>(
     cells: &mut M,

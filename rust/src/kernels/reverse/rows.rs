@@ -35,15 +35,6 @@ pub(crate) struct RowDigits {
 
 impl RowDigits {
     /// The rows of `width` items of a list of `len` items.
-    ///
-    /// # Contract
-    ///
-    /// ```text
-    /// requires { FitsRows len width }
-    /// ensures width { result.width ≡ width }
-    /// ensures digits { result.digits ≡ clog (len / width) }
-    /// ensures few { result.digits < 64 }
-    /// ```
     #[inline(always)]
     pub(crate) fn of(len: usize, width: usize) -> Self {
         if len == 0 {
@@ -55,14 +46,6 @@ impl RowDigits {
 
     /// The rows of a list of `2^lb_num_chunks` chunks of `2^lb_chunk_size` items. Each chunk is a
     /// row.
-    ///
-    /// # Contract
-    ///
-    /// ```text
-    /// requires { lb_chunk_size < 64 }
-    /// ensures width { result.width ≡ 2 ^ lb_chunk_size }
-    /// ensures digits { result.digits ≡ lb_num_chunks }
-    /// ```
     #[inline(always)]
     pub(crate) fn chunks(lb_num_chunks: usize, lb_chunk_size: usize) -> Self {
         RowDigits {
@@ -72,15 +55,6 @@ impl RowDigits {
     }
 
     /// The grid of the rows whose indices have the middle part `middle`.
-    ///
-    /// # Contract
-    ///
-    /// ```text
-    /// requires few { self.digits < 64 }
-    /// requires middle { middle < 2 ^ (self.digits - self.digits / 2 - self.digits / 2) }
-    /// ensures { let half = self.digits / 2 in
-    ///     result ≡ grid_of_rows half (self.digits - half) self.width middle }
-    /// ```
     #[inline(always)]
     pub(crate) fn grid(self, middle: usize) -> Grid {
         let half = self.digits / 2;
@@ -95,14 +69,6 @@ impl RowDigits {
 }
 
 /// The kernel of [`reverse_index_bits_short`](crate::kernels::reverse::reverse_index_bits_short).
-///
-/// # Contract
-///
-/// ```text
-/// requires { IsReversible (length (M.items m)) }
-/// ensures order { IsReversal (M.items m) (M.items result) }
-/// ensures holder { M.same_holder (short_swaps (clog (length (M.items m)))) m result }
-/// ```
 #[inline(always)]
 pub(crate) fn reverse_short<M: Places>(m: M) -> M {
     let rows = RowDigits::of(m.len(), 1);
@@ -110,31 +76,12 @@ pub(crate) fn reverse_short<M: Places>(m: M) -> M {
 }
 
 /// The kernel of [`reverse_chunks_on`](crate::kernels::reverse::reverse_chunks_on).
-///
-/// # Contract
-///
-/// ```text
-/// requires whole { length (M.items m) ≡ 2 ^ (lb_num_chunks + lb_chunk_size) }
-/// requires len_fits { length (M.items m) < 2 ^ 64 }
-/// ensures order { IsRowReversal (2 ^ lb_chunk_size) (M.items m) (M.items result) }
-/// ensures holder { M.same_holder (short_swaps lb_num_chunks * 2 ^ lb_chunk_size) m result }
-/// ```
 #[inline(always)]
 pub(crate) fn reverse_chunks<M: Places>(m: M, lb_num_chunks: usize, lb_chunk_size: usize) -> M {
     reverse_rows(m, RowDigits::chunks(lb_num_chunks, lb_chunk_size))
 }
 
 /// The kernel of [`reverse_row_index_bits_on`](crate::kernels::reverse::reverse_row_index_bits_on).
-///
-/// # Contract
-///
-/// ```text
-/// requires fits { FitsRows (length (M.items m)) rows.width }
-/// requires digits { rows.digits ≡ clog (length (M.items m) / rows.width) }
-/// requires len_fits { length (M.items m) < 2 ^ 64 }
-/// ensures order { IsRowReversal rows.width (M.items m) (M.items result) }
-/// ensures holder { M.same_holder (row_swaps (length (M.items m)) rows.width) m result }
-/// ```
 #[inline(always)]
 pub(crate) fn reverse_rows<M: Places>(m: M, rows: RowDigits) -> M {
     // In the cases with a fixed number of digits, the compiler unrolls the exchanges of all pairs.
@@ -151,16 +98,6 @@ pub(crate) fn reverse_rows<M: Places>(m: M, rows: RowDigits) -> M {
 
 /// Exchanges all pairs of rows whose indices are each other's reverse. In each grid this is done by
 /// quadrants or row by row.
-///
-/// # Contract
-///
-/// ```text
-/// requires fits { FitsRows (length (M.items m)) rows.width }
-/// requires digits { rows.digits ≡ clog (length (M.items m) / rows.width) }
-/// requires len_fits { length (M.items m) < 2 ^ 64 }
-/// ensures order { IsRowReversal rows.width (M.items m) (M.items result) }
-/// ensures holder { M.same_holder (rows.width * short_swaps rows.digits) m result }
-/// ```
 #[inline(always)]
 fn exchange_pairs<M: Places>(m: M, rows: RowDigits, row_by_row: bool) -> M {
     if rows.digits < 2 {
@@ -176,16 +113,6 @@ fn exchange_pairs<M: Places>(m: M, rows: RowDigits, row_by_row: bool) -> M {
 
 /// Does the same as [`exchange_pairs`], by quadrants, in a function of its own. So a call with few
 /// rows needs no stack frame, which would take longer than its exchanges.
-///
-/// # Contract
-///
-/// ```text
-/// requires fits { FitsRows (length (M.items m)) rows.width }
-/// requires digits { rows.digits ≡ clog (length (M.items m) / rows.width) }
-/// requires len_fits { length (M.items m) < 2 ^ 64 }
-/// ensures order { IsRowReversal rows.width (M.items m) (M.items result) }
-/// ensures holder { M.same_holder (rows.width * short_swaps rows.digits) m result }
-/// ```
 #[inline(never)]
 pub(crate) fn exchange_pairs_outlined<M: Places>(m: M, rows: RowDigits) -> M {
     exchange_pairs(m, rows, false)

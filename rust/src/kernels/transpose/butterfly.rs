@@ -8,28 +8,12 @@
 
 /// The transpose of a block: the item in row r and column c of the result comes from row c and
 /// column r.
-///
-/// # Contract
-///
-/// [`contracts`](crate::kernels::contracts) explains how to read this contract.
-///
-/// ```text
-/// ensures { IsBlockTransposed block result }
-/// ```
 pub fn butterfly_4x4<T: Copy>(block: [[T; 4]; 4]) -> [[T; 4]; 4] {
     butterfly_stage2(butterfly_stage1(block))
 }
 
 /// Exchanges the lowest bit of the row number with the lowest bit of the column number. This
 /// transposes each of the four squares of 2 by 2 items.
-///
-/// # Contract
-///
-/// [`contracts`](crate::kernels::contracts) explains how to read this contract.
-///
-/// ```text
-/// ensures { IsStageOne block result }
-/// ```
 pub fn butterfly_stage1<T: Copy>(block: [[T; 4]; 4]) -> [[T; 4]; 4] {
     let [a, b, c, d] = block;
     stage1_of_rows(a, b, c, d)
@@ -38,14 +22,6 @@ pub fn butterfly_stage1<T: Copy>(block: [[T; 4]; 4]) -> [[T; 4]; 4] {
 /// Exchanges the higher bit of the row number with the higher bit of the column number.
 ///
 /// This exchanges the upper right square of 2 by 2 items with the lower left one.
-///
-/// # Contract
-///
-/// [`contracts`](crate::kernels::contracts) explains how to read this contract.
-///
-/// ```text
-/// ensures { IsStageTwo block result }
-/// ```
 pub fn butterfly_stage2<T: Copy>(block: [[T; 4]; 4]) -> [[T; 4]; 4] {
     let [a, b, c, d] = block;
     stage2_of_rows(a, b, c, d)
@@ -53,12 +29,6 @@ pub fn butterfly_stage2<T: Copy>(block: [[T; 4]; 4]) -> [[T; 4]; 4] {
 
 /// Exchanges the items in the odd columns of rows 0 and 2 with those in the even columns of rows 1
 /// and 3.
-///
-/// # Contract
-///
-/// ```text
-/// ensures { IsStageOne (a ∷ b ∷ c ∷ d ∷ []) result }
-/// ```
 fn stage1_of_rows<T: Copy>(a: [T; 4], b: [T; 4], c: [T; 4], d: [T; 4]) -> [[T; 4]; 4] {
     [
         [a[0], b[0], a[2], b[2]],
@@ -70,12 +40,6 @@ fn stage1_of_rows<T: Copy>(a: [T; 4], b: [T; 4], c: [T; 4], d: [T; 4]) -> [[T; 4
 
 /// Makes two rows from rows 0 and 2: one of their first halves, and one of their second halves.
 /// Does the same with rows 1 and 3.
-///
-/// # Contract
-///
-/// ```text
-/// ensures { IsStageTwo (a ∷ b ∷ c ∷ d ∷ []) result }
-/// ```
 fn stage2_of_rows<T: Copy>(a: [T; 4], b: [T; 4], c: [T; 4], d: [T; 4]) -> [[T; 4]; 4] {
     [
         [a[0], a[1], c[0], c[1]],

@@ -20,18 +20,6 @@ use crate::kernels::transpose::{put_region, transpose_by_shape};
 /// The item at `y * width + x` of `input` is written to cell `x * height + y`. The writes are
 /// counted from 0, and there are exactly `width * height`. Both lengths must be `width * height`,
 /// which [`fits_matrix`](crate::kernels::transpose::fits_matrix) checks.
-///
-/// # Contract
-///
-/// [`contracts`](crate::kernels::contracts) explains how to read this contract.
-///
-/// ```text
-/// requires input_fits { length input.now ≡ width * height }
-/// requires output_fits { length (C.items cells.old) ≡ width * height }
-/// ensures order { IsTranspose width height input.now (C.items cells.new) }
-/// ensures count { result ≡ width * height }
-/// ensures holder { C.same_holder result cells.old cells.new }
-/// ```
 pub fn transpose_counted<C: Cells>(
     input: &[C::Item],
     cells: &mut C,
@@ -45,18 +33,6 @@ pub fn transpose_counted<C: Cells>(
 ///
 /// Both lengths must be `width * height`, which [`fits_matrix`](crate::kernels::transpose::fits_matrix)
 /// checks.
-///
-/// # Contract
-///
-/// [`contracts`](crate::kernels::contracts) explains how to read this contract.
-///
-/// ```text
-/// requires input_fits { length (R.items input.now) ≡ width * height }
-/// requires output_fits { length (C.items cells.old) ≡ width * height }
-/// ensures order { IsTranspose width height (R.items input.now) (C.items cells.new) }
-/// ensures count { result ≡ width * height }
-/// ensures holder { C.same_holder result cells.old cells.new }
-/// ```
 pub fn transpose_source_counted<R, C>(input: &R, cells: &mut C, width: usize, height: usize) -> u128
 where
     C: Cells,
@@ -73,18 +49,6 @@ where
 /// checks. If 16 divides `width`, a matrix of 256 to 1024 items is written 16 rows at a time, in
 /// blocks of 4 by 4 items. Rows that fill no block are written column after column. The contract
 /// does not say so, but tests of the order of the writes show it.
-///
-/// # Contract
-///
-/// [`contracts`](crate::kernels::contracts) explains how to read this contract.
-///
-/// ```text
-/// requires input_fits { length input.now ≡ width * height }
-/// requires output_fits { length (C.items out.old.holder) ≡ width * height }
-/// ensures order { IsTranspose width height input.now (C.items out.new.holder) }
-/// ensures count { out.new.count ≡ counted out.old.count (width * height) }
-/// ensures holder { C.same_holder (width * height) out.old.holder out.new.holder }
-/// ```
 pub fn transpose_on<C: Cells>(input: &[C::Item], out: &mut Writes<C>, width: usize, height: usize) {
     transpose_source_on(&SliceSource::new(input), out, width, height);
 }
@@ -93,18 +57,6 @@ pub fn transpose_on<C: Cells>(input: &[C::Item], out: &mut Writes<C>, width: usi
 ///
 /// Both lengths must be `width * height`, which [`fits_matrix`](crate::kernels::transpose::fits_matrix)
 /// checks.
-///
-/// # Contract
-///
-/// [`contracts`](crate::kernels::contracts) explains how to read this contract.
-///
-/// ```text
-/// requires input_fits { length (R.items input.now) ≡ width * height }
-/// requires output_fits { length (C.items out.old.holder) ≡ width * height }
-/// ensures order { IsTranspose width height (R.items input.now) (C.items out.new.holder) }
-/// ensures count { out.new.count ≡ counted out.old.count (width * height) }
-/// ensures holder { C.same_holder (width * height) out.old.holder out.new.holder }
-/// ```
 pub fn transpose_source_on<R, C>(input: &R, out: &mut Writes<C>, width: usize, height: usize)
 where
     C: Cells,
@@ -122,29 +74,6 @@ where
 /// y`. All other cells keep their items. Both lengths must be `width * height`, which
 /// [`fits_matrix`](crate::kernels::transpose::fits_matrix) checks. The region must lie in the matrix, which
 /// [`Region::fits`] checks.
-///
-/// # Contract
-///
-/// [`contracts`](crate::kernels::contracts) explains how to read this contract.
-///
-/// ```text
-/// requires input_fits { length input.now ≡ width * height }
-/// requires output_fits { length (C.items out.old.holder) ≡ width * height }
-/// requires inside { LiesInMatrix region width height }
-/// ensures transposed { IsRegionTransposed region width height input.now
-///     (C.items out.old.holder) (C.items out.new.holder) }
-/// ensures put { (x y : ℕ) → region.row_start ≤ y → y < region.row_end
-///     → region.col_start ≤ x → x < region.col_end
-///     → slice_get (C.items out.new.holder) (x * height + y)
-///     ≡ slice_get input.now (y * width + x) }
-/// ensures stay { (x y : ℕ) → y < height
-///     → ((y < region.row_start) ⊎ (region.row_end ≤ y) ⊎ (x < region.col_start)
-///     ⊎ (region.col_end ≤ x))
-///     → slice_get (C.items out.new.holder) (x * height + y)
-///     ≡ slice_get (C.items out.old.holder) (x * height + y) }
-/// ensures count { out.new.count ≡ counted out.old.count (items_of region) }
-/// ensures holder { C.same_holder (items_of region) out.old.holder out.new.holder }
-/// ```
 pub fn transpose_region_on<C: Cells>(
     input: &[C::Item],
     out: &mut Writes<C>,
@@ -157,29 +86,6 @@ pub fn transpose_region_on<C: Cells>(
 
 /// Writes the transpose of a region of any source to `out`, as [`transpose_region_on`] does for a
 /// slice. The preconditions are the same.
-///
-/// # Contract
-///
-/// [`contracts`](crate::kernels::contracts) explains how to read this contract.
-///
-/// ```text
-/// requires input_fits { length (R.items input.now) ≡ width * height }
-/// requires output_fits { length (C.items out.old.holder) ≡ width * height }
-/// requires inside { LiesInMatrix region width height }
-/// ensures transposed { IsRegionTransposed region width height (R.items input.now)
-///     (C.items out.old.holder) (C.items out.new.holder) }
-/// ensures put { (x y : ℕ) → region.row_start ≤ y → y < region.row_end
-///     → region.col_start ≤ x → x < region.col_end
-///     → slice_get (C.items out.new.holder) (x * height + y)
-///     ≡ slice_get (R.items input.now) (y * width + x) }
-/// ensures stay { (x y : ℕ) → y < height
-///     → ((y < region.row_start) ⊎ (region.row_end ≤ y) ⊎ (x < region.col_start)
-///     ⊎ (region.col_end ≤ x))
-///     → slice_get (C.items out.new.holder) (x * height + y)
-///     ≡ slice_get (C.items out.old.holder) (x * height + y) }
-/// ensures count { out.new.count ≡ counted out.old.count (items_of region) }
-/// ensures holder { C.same_holder (items_of region) out.old.holder out.new.holder }
-/// ```
 pub fn transpose_source_region_on<R, C>(
     input: &R,
     out: &mut Writes<C>,
@@ -200,28 +106,6 @@ where
 /// from 0.
 ///
 /// The region and the preconditions are as for [`transpose_region_on`].
-///
-/// # Contract
-///
-/// [`contracts`](crate::kernels::contracts) explains how to read this contract.
-///
-/// ```text
-/// requires input_fits { length input.now ≡ width * height }
-/// requires output_fits { length (C.items cells.old) ≡ width * height }
-/// requires inside { LiesInMatrix region width height }
-/// ensures transposed { IsRegionTransposed region width height input.now (C.items cells.old)
-///     (C.items cells.new) }
-/// ensures put { (x y : ℕ) → region.row_start ≤ y → y < region.row_end
-///     → region.col_start ≤ x → x < region.col_end
-///     → slice_get (C.items cells.new) (x * height + y) ≡ slice_get input.now (y * width + x) }
-/// ensures stay { (x y : ℕ) → y < height
-///     → ((y < region.row_start) ⊎ (region.row_end ≤ y) ⊎ (x < region.col_start)
-///     ⊎ (region.col_end ≤ x))
-///     → slice_get (C.items cells.new) (x * height + y)
-///     ≡ slice_get (C.items cells.old) (x * height + y) }
-/// ensures count { result ≡ items_of region }
-/// ensures holder { C.same_holder result cells.old cells.new }
-/// ```
 pub fn transpose_region_counted<C: Cells>(
     input: &[C::Item],
     cells: &mut C,
@@ -234,29 +118,6 @@ pub fn transpose_region_counted<C: Cells>(
 
 /// Writes the transpose of a region of any source to `cells`, as [`transpose_region_counted`] does
 /// for a slice. The preconditions are the same.
-///
-/// # Contract
-///
-/// [`contracts`](crate::kernels::contracts) explains how to read this contract.
-///
-/// ```text
-/// requires input_fits { length (R.items input.now) ≡ width * height }
-/// requires output_fits { length (C.items cells.old) ≡ width * height }
-/// requires inside { LiesInMatrix region width height }
-/// ensures transposed { IsRegionTransposed region width height (R.items input.now)
-///     (C.items cells.old) (C.items cells.new) }
-/// ensures put { (x y : ℕ) → region.row_start ≤ y → y < region.row_end
-///     → region.col_start ≤ x → x < region.col_end
-///     → slice_get (C.items cells.new) (x * height + y)
-///     ≡ slice_get (R.items input.now) (y * width + x) }
-/// ensures stay { (x y : ℕ) → y < height
-///     → ((y < region.row_start) ⊎ (region.row_end ≤ y) ⊎ (x < region.col_start)
-///     ⊎ (region.col_end ≤ x))
-///     → slice_get (C.items cells.new) (x * height + y)
-///     ≡ slice_get (C.items cells.old) (x * height + y) }
-/// ensures count { result ≡ items_of region }
-/// ensures holder { C.same_holder result cells.old cells.new }
-/// ```
 pub fn transpose_source_region_counted<R, C>(
     input: &R,
     cells: &mut C,
@@ -283,23 +144,6 @@ where
 /// then split and written in the same way. `levels` limits how deep the splits may nest, and must
 /// be enough for the region. 64 levels are enough for every region of a matrix. The other
 /// preconditions are those of [`transpose_region_on`].
-///
-/// # Contract
-///
-/// [`contracts`](crate::kernels::contracts) explains how to read this contract.
-///
-/// ```text
-/// requires input_fits { length input.now ≡ width * height }
-/// requires output_fits { length (C.items out.old.holder) ≡ width * height }
-/// requires inside { LiesInMatrix region width height }
-/// requires enough { lev (rows_of region) (cols_of region) ≤ levels }
-/// ensures transposed { IsRegionTransposed region width height input.now
-///     (C.items out.old.holder) (C.items out.new.holder) }
-/// ensures count { out.new.count ≡ counted out.old.count (items_of region) }
-/// ensures nested { result ≡ nest (rows_of region) (cols_of region) }
-/// ensures bound { result ≤ 57 }
-/// ensures holder { C.same_holder (items_of region) out.old.holder out.new.holder }
-/// ```
 pub fn transpose_split_on<C: Cells>(
     input: &[C::Item],
     out: &mut Writes<C>,
@@ -313,23 +157,6 @@ pub fn transpose_split_on<C: Cells>(
 
 /// Writes the transpose of a region of any source to `out`, as [`transpose_split_on`] does for a
 /// slice. The preconditions are the same.
-///
-/// # Contract
-///
-/// [`contracts`](crate::kernels::contracts) explains how to read this contract.
-///
-/// ```text
-/// requires input_fits { length (R.items input.now) ≡ width * height }
-/// requires output_fits { length (C.items out.old.holder) ≡ width * height }
-/// requires inside { LiesInMatrix region width height }
-/// requires enough { lev (rows_of region) (cols_of region) ≤ levels }
-/// ensures transposed { IsRegionTransposed region width height (R.items input.now)
-///     (C.items out.old.holder) (C.items out.new.holder) }
-/// ensures count { out.new.count ≡ counted out.old.count (items_of region) }
-/// ensures nested { result ≡ nest (rows_of region) (cols_of region) }
-/// ensures bound { result ≤ 57 }
-/// ensures holder { C.same_holder (items_of region) out.old.holder out.new.holder }
-/// ```
 pub fn transpose_source_split_on<R, C>(
     input: &R,
     out: &mut Writes<C>,
@@ -353,16 +180,6 @@ where
 /// The square begins at place `base`, and its rows begin `2^log_stride` places apart. No row may
 /// reach into the next one, and the last place of the square must lie in the list. That place is
 /// computed without wrapping. This tests the preconditions of [`transpose_square_on`].
-///
-/// # Contract
-///
-/// [`contracts`](crate::kernels::contracts) explains how to read this contract.
-///
-/// ```text
-/// ensures { let s = 2 ^ log_size in
-///     IsTrue result ↔ ((log_size ≤ log_stride) × (log_stride < 64)
-///     × (base + (s - 1) * 2 ^ log_stride + (s - 1) < len)) }
-/// ```
 #[inline]
 #[must_use]
 pub const fn fits_square(len: usize, base: usize, log_stride: usize, log_size: usize) -> bool {
@@ -386,22 +203,6 @@ pub const fn fits_square(len: usize, base: usize, log_stride: usize, log_size: u
 /// `log_size` must be at most `log_stride`, so that no row reaches into the next one, and
 /// `log_stride` must be below 64. The list must hold the last place of the square,
 /// `base + (s - 1) * 2^log_stride + s - 1`. [`fits_square`] checks all of this.
-///
-/// # Contract
-///
-/// [`contracts`](crate::kernels::contracts) explains how to read this contract.
-///
-/// ```text
-/// requires rows_apart { log_size ≤ log_stride }
-/// requires stride_fits { log_stride < 64 }
-/// requires room { let s = 2 ^ log_size in
-///     base + (s - 1) * 2 ^ log_stride + (s - 1) < length (S.items m.old.holder) }
-/// ensures transposed { IsSquareTransposed base log_stride log_size (S.items m.old.holder)
-///     (S.items m.new.holder) }
-/// ensures count { let s = 2 ^ log_size in m.new.count ≡ counted m.old.count (s * (s - 1) / 2) }
-/// ensures holder { let s = 2 ^ log_size in S.same_holder (s * (s - 1) / 2)
-///     m.old.holder m.new.holder }
-/// ```
 pub fn transpose_square_on<S: Places>(
     m: &mut Swaps<S>,
     base: usize,
@@ -416,21 +217,6 @@ pub fn transpose_square_on<S: Places>(
 /// from 0.
 ///
 /// The square and the preconditions are as for [`transpose_square_on`].
-///
-/// # Contract
-///
-/// [`contracts`](crate::kernels::contracts) explains how to read this contract.
-///
-/// ```text
-/// requires rows_apart { log_size ≤ log_stride }
-/// requires stride_fits { log_stride < 64 }
-/// requires room { let s = 2 ^ log_size in
-///     base + (s - 1) * 2 ^ log_stride + (s - 1) < length (S.items places.old) }
-/// ensures transposed { IsSquareTransposed base log_stride log_size (S.items places.old)
-///     (S.items places.new) }
-/// ensures count { let s = 2 ^ log_size in result ≡ s * (s - 1) / 2 }
-/// ensures holder { S.same_holder result places.old places.new }
-/// ```
 pub fn transpose_square_counted<S: Places>(
     places: &mut S,
     base: usize,
@@ -442,22 +228,6 @@ pub fn transpose_square_counted<S: Places>(
 
 /// Splits and puts `region`, with a counter that starts at `count`. Returns the holder inside the
 /// counter, the new count, and how deep the splits nest.
-///
-/// # Contract
-///
-/// ```text
-/// requires input_fits { length (R.items matrix.source) ≡ matrix.width * matrix.height }
-/// requires output_fits { length (C.items cells) ≡ matrix.width * matrix.height }
-/// requires inside { LiesInMatrix region matrix.width matrix.height }
-/// requires enough { lev (rows_of region) (cols_of region) ≤ levels }
-/// ensures transposed { IsRegionTransposed region matrix.width matrix.height
-///     (R.items matrix.source)
-///     (C.items cells) (C.items result.0) }
-/// ensures count { result.1 ≡ counted count (items_of region) }
-/// ensures holder { C.same_holder (items_of region) cells result.0 }
-/// ensures nested { result.2 ≡ nest (rows_of region) (cols_of region) }
-/// ensures bound { result.2 ≤ 57 }
-/// ```
 fn put_split_resumed<C: Cells, R: Source<Item = C::Item> + Copy>(
     cells: C,
     count: u128,

@@ -28,12 +28,6 @@ pub(crate) enum Order<S> {
 impl Order<Strips<4, UNIT>> {
     /// The order for a whole matrix that is not tiny, chosen by its shape alone. Every call in Rattle
     /// uses this choice. The plain Rust package knows the size of an item and has a choice of its own.
-    ///
-    /// # Contract
-    ///
-    /// ```text
-    /// ensures len_fits { length (R.items matrix.source) < 2 ^ 64 }
-    /// ```
     #[inline(always)]
     pub(crate) fn by_shape<R: Source + Copy>(matrix: Matrix<R>) -> Self {
         let strips = Strips::by_shape(matrix);

@@ -14,14 +14,6 @@ pub(crate) struct Matrix<R> {
 
 impl<R> Matrix<R> {
     /// The matrix of `height` rows of `width` items that `source` holds.
-    ///
-    /// # Contract
-    ///
-    /// ```text
-    /// ensures source { result.source ≡ source }
-    /// ensures width { result.width ≡ width }
-    /// ensures height { result.height ≡ height }
-    /// ```
     #[inline(always)]
     pub(crate) fn new(source: R, width: usize, height: usize) -> Self {
         Matrix {
@@ -32,17 +24,6 @@ impl<R> Matrix<R> {
     }
 
     /// The region that is the whole matrix.
-    ///
-    /// # Contract
-    ///
-    /// ```text
-    /// ensures { result ≡ record {
-    ///   row_start = 0;
-    ///   row_end = self.now.height;
-    ///   col_start = 0;
-    ///   col_end = self.now.width;
-    /// } }
-    /// ```
     #[inline(always)]
     pub(crate) fn whole(&self) -> Region {
         Region {
@@ -73,14 +54,6 @@ impl Region {
     /// <= height` and `col_start <= col_end <= width`.
     ///
     /// This tests the precondition that the calls on a region have in common.
-    ///
-    /// # Contract
-    ///
-    /// [`contracts`](crate::kernels::contracts) explains how to read this contract.
-    ///
-    /// ```text
-    /// ensures { IsTrue result ↔ LiesInMatrix self width height }
-    /// ```
     #[inline]
     #[must_use]
     pub const fn fits(self, width: usize, height: usize) -> bool {
@@ -91,38 +64,18 @@ impl Region {
     }
 
     /// The number of rows.
-    ///
-    /// # Contract
-    ///
-    /// ```text
-    /// requires in_order { self.row_start ≤ self.row_end }
-    /// ensures { result ≡ rows_of self }
-    /// ```
     #[inline(always)]
     pub(crate) fn rows(self) -> usize {
         self.row_end - self.row_start
     }
 
     /// The number of columns.
-    ///
-    /// # Contract
-    ///
-    /// ```text
-    /// requires in_order { self.col_start ≤ self.col_end }
-    /// ensures { result ≡ cols_of self }
-    /// ```
     #[inline(always)]
     pub(crate) fn cols(self) -> usize {
         self.col_end - self.col_start
     }
 
     /// The region with the same columns and with the rows `start..end` of the matrix.
-    ///
-    /// # Contract
-    ///
-    /// ```text
-    /// ensures { result ≡ record self { row_start = start; row_end = end } }
-    /// ```
     #[inline(always)]
     pub(crate) fn with_rows(self, start: usize, end: usize) -> Region {
         Region {
@@ -133,12 +86,6 @@ impl Region {
     }
 
     /// The region with the same rows and with the columns `start..end` of the matrix.
-    ///
-    /// # Contract
-    ///
-    /// ```text
-    /// ensures { result ≡ record self { col_start = start; col_end = end } }
-    /// ```
     #[inline(always)]
     pub(crate) fn with_cols(self, start: usize, end: usize) -> Region {
         Region {
@@ -150,16 +97,6 @@ impl Region {
 
     /// Cuts the region above row `middle` of the matrix. Returns the upper part, which ends before
     /// that row, and the lower part, which begins with it.
-    ///
-    /// # Contract
-    ///
-    /// ```text
-    /// requires from { self.row_start ≤ middle }
-    /// requires to { middle ≤ self.row_end }
-    /// ensures upper { result.0 ≡ record self { row_end = middle } }
-    /// ensures lower { result.1 ≡ record self { row_start = middle } }
-    /// ensures cut { IsCut self result.0 result.1 }
-    /// ```
     #[inline(always)]
     pub(crate) fn cut_rows(self, middle: usize) -> (Region, Region) {
         let upper = self.with_rows(self.row_start, middle);
@@ -168,16 +105,6 @@ impl Region {
 
     /// Cuts the region to the left of column `middle` of the matrix. Returns the left part, which
     /// ends before that column, and the right part, which begins with it.
-    ///
-    /// # Contract
-    ///
-    /// ```text
-    /// requires from { self.col_start ≤ middle }
-    /// requires to { middle ≤ self.col_end }
-    /// ensures left { result.0 ≡ record self { col_end = middle } }
-    /// ensures right { result.1 ≡ record self { col_start = middle } }
-    /// ensures cut { IsCut self result.0 result.1 }
-    /// ```
     #[inline(always)]
     pub(crate) fn cut_cols(self, middle: usize) -> (Region, Region) {
         let left = self.with_cols(self.col_start, middle);
@@ -186,16 +113,6 @@ impl Region {
 
     /// Returns the same region. If the caller passes constants, the compiler then knows how many
     /// rows and columns the region has.
-    ///
-    /// # Contract
-    ///
-    /// ```text
-    /// requires rows_in_order { self.row_start ≤ self.row_end }
-    /// requires cols_in_order { self.col_start ≤ self.col_end }
-    /// requires rows { rows ≡ rows_of self }
-    /// requires cols { cols ≡ cols_of self }
-    /// ensures { result ≡ self }
-    /// ```
     #[inline(always)]
     pub(crate) fn with_known_sides(self, rows: usize, cols: usize) -> Region {
         Region {

@@ -127,14 +127,6 @@ impl<const SIDE: usize> PutRegion for Squares<SIDE> {
 }
 
 /// The number of rows in whole squares, if there are `all` rows.
-///
-/// # Contract
-///
-/// ```text
-/// requires some_side { 0 < side }
-/// ensures inside { result ≤ all }
-/// ensures all { all < result + side }
-/// ```
 #[inline(always)]
 fn in_squares(all: usize, side: usize) -> usize {
     all / side * side
