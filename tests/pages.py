@@ -13,7 +13,7 @@ OUTSIDE = set("""
     as_chunks as_flattened_mut bytemuck DisjointMutPtr gcd_inner gcd_inversion_prime_field_32 get_disjoint_mut into_flattened
     i686 p3_maybe_rayon relatively_prime_u64 transparent TransparentWrapper
     TransparentWrapperAlloc extern_crate_alloc try_from_fn
-    axioms backend contains_key holes incremental Invariants LEMMA libraries precise statements tidy TURNED
+    nat_eq axioms backend contains_key holes incremental Invariants LEMMA libraries precise statements tidy TURNED
 """.split())
 # These pages mention names that the repository does not have, or no longer has, so their names are not looked up.
 ELSEWHERE = {"rust/CHANGELOG.md", "docs/TRIED.md", "docs/DIFFERENCES.md"}

@@ -1,22 +1,21 @@
-"""Writes docs/contracts.txt, which lists the contracts and the lemmas for callers, and names the definitions.
+"""Writes docs/contracts.txt, which lists the contracts, and names the definitions.
 
     python3 tools/contract_list.py
 
-tests/agree compares the list with the sources. So each clause or lemma for callers that is removed, that promises less or
-that requires more is a changed line of the list, and so is a definition that is removed. An axiom or a hole in a proof is
-not: `rt check` refuses both, in any file of specs/ or proofs/."""
+tests/agree compares the list with the sources. So each clause that is removed, that promises less or that requires more is a
+changed line of the list, and so is a definition that is removed. An axiom or a hole in a proof is not: `rt check` refuses both,
+in any file of specs/ or proofs/."""
 import glob
 import re
 import sys
 import textwrap
 
 sys.dont_write_bytecode = True
-from rattle_source import declarations, read, statements
+from rattle_source import declarations, read
 
 LIST = "docs/contracts.txt"
 HEAD = """\
-# The public contracts of the crates on which code may rely, the statements of the lemmas for callers, and the names of the
-# definitions. docs/CALLING.md explains how to read a contract, and docs/MODEL.md says in words what is promised. The crates
+# The public contracts of the crates on which code may rely, and the names of the definitions. docs/CALLING.md explains how to read a contract, and docs/MODEL.md says in words what is promised. The crates
 # of examples and tests, p3_util_callers, p3_util_transform and p3_util_vectors, are not listed.
 #
 # Below the name of a source are its contracts. All structs are listed, with their private fields, since a clause or a
@@ -26,9 +25,8 @@ HEAD = """\
 # What the root of a crate re-exports, such as `p3_util::NoRoom`, is below its src/lib.rt.
 #
 # The contracts of a crate are followed by the files of its definitions, each with the names that it defines. The file has the
-# definitions, each with a comment that says the same in words. In p3_util these are followed by the lemmas for callers
-# without their proofs. Below these are the crate's imports: the modules that the names in its contracts and lemmas come from.
-# Your crate can import the same names, by `ghost use`.
+# definitions, each with a comment that says the same in words. Below these are the crate's imports: the modules that the
+# names in its contracts come from. Your crate can import the same names, by `ghost use`.
 #
 # Written by: python3 tools/contract_list.py"""
 CRATES = ["p3_util_kernels", "p3_util_registers", "p3_util_parts", "p3_util_calls", "p3_util", "p3_util_run", "p3_util_c"]
@@ -36,13 +34,10 @@ CRATES = ["p3_util_kernels", "p3_util_registers", "p3_util_parts", "p3_util_call
 EXAMPLES = {"p3_util_callers", "p3_util_transform", "p3_util_vectors"}
 # In the sources of these crates, what only the crate itself sees is listed too.
 INSIDE = r"crates/p3_util_(kernels|registers|parts)/"
-# A file with this name, in a crate's proofs/, names the crate's lemmas for callers.
-LEMMAS = "Callers.antt"
 # The rows of marks and names of std that are too rare for docs/CALLING.md.
 MARKS = "tools/marks.txt"
 IMPORT = re.compile(r"^ *(?:ghost )?use ([\w.-]+)\.\{([^}]*)\};?(?: *--.*)?\n", re.M)
 DEFINED = re.compile(r"^(?: *(?:abbrev|unfoldable) pub| *pub (?:record|data)|pub(?! record| data)) (?!mod |use )(\w+)", re.M)
-EXPORT = re.compile(r"^pub use Rattle\.([\w.-]+)\.\{([^}]*)\}", re.M)
 
 
 def line(indent, code):
@@ -87,17 +82,15 @@ def contracts(text, seen_by=("pub",), hidden=""):
             yield line(2, f"{outer.head} {{ {outer.body} }}" if outer.body else outer.head)
 
 
-def listed(path, named=None):
-    """The lines of a source or of a file of lemmas, and the names that it imports for them, each with its module. If names are
-    given, these are the lemmas that are listed. Of a file of definitions, the one line has the names that it defines."""
+def listed(path):
+    """The lines of a source, and the names that it imports for them, each with its module. Of a file of definitions, the one
+    line has the names that it defines."""
     with open(path, encoding="utf-8") as text:
         source = read(path) if path.endswith(".rt") else text.read()
     if path.endswith(".rt"):
         exported = re.findall(r"^pub use [^;]*;", source, re.M) if path.endswith("/src/lib.rt") else []
         lines = [line(2, re.sub(r"(?<={)\s+|,?\s+(?=})", "", said)) for said in exported]
         lines += contracts(source, ("pub", "pub(crate)") if re.match(INSIDE, path) else ("pub",), "hidden ")
-    elif "/proofs/" in path:
-        lines = [f"  {said}" for said in statements(source, named)]
     else:
         return [line(2, ", ".join(names))] if (names := DEFINED.findall(source)) else [], set()
     said = set(re.findall(r"\w+|[^\w\s]+", "\n".join(lines)))
@@ -105,26 +98,13 @@ def listed(path, named=None):
     return lines, {(module, name) for module, name in names if said.issuperset(name.split(" as ")[-1].replace("◌", " ").split())}
 
 
-def exports(text):
-    """The lines by which a file of this text re-exports lemmas, and the file of each, with the names of these lemmas."""
-    found = EXPORT.findall(text)
-    files = {f"crates/{module.replace('.', '/')}.antt": [name.split()[0] for name in names.split(",")] for module, names in found}
-    return [line(2, f"pub use Rattle.{module}.{{{names}}}") for module, names in found], files
-
-
 def sections(crate):
-    """The sections of a crate, each with its path, its lines and the names that it imports: the sources without tests, the
-    files of definitions, and the files of lemmas for callers."""
+    """The sections of a crate, each with its path, its lines and the names that it imports: the sources without tests, and
+    the files of definitions."""
     sources = sorted(glob.glob(f"crates/{crate}/src/**/*.rt", recursive=True))
     definitions = sorted(glob.glob(f"crates/{crate}/specs/**/*.antt", recursive=True))
     for path in [*(path for path in sources if not re.search(r"/tests[./]", path)), *definitions]:
         yield path, *listed(path)
-    for path in glob.glob(f"crates/{crate}/proofs/{LEMMAS}"):
-        with open(path, encoding="utf-8") as text:
-            lines, files = exports(text.read())
-        yield path, lines, set()
-        files |= dict.fromkeys(glob.glob(f"{path.removesuffix('.antt')}/**/*.antt", recursive=True))
-        yield from ((path, *listed(path, named)) for path, named in sorted(files.items()))
 
 
 def marks():

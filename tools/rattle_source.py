@@ -178,21 +178,6 @@ def functions(text):
             yield from ((outer, inner) for inner in declarations(outer.body) if inner.kind == "fn")
 
 
-def statements(text, named=None, indent=""):
-    """The lines of a file of lemmas that say what its public lemmas state, without the proofs. If names are given, these
-    are the lemmas of these names. Above a lemma is the head of its module, since the arguments there are its own too. A
-    definition is whole."""
-    defined = None
-    for block in re.findall(rf"^{indent}[^\s-].*\n(?:(?:{indent} .*)?\n)*", text, re.M):
-        head = re.match(r" *module _ .*? where\n", block, re.S)
-        if head and (inner := list(statements(block[head.end():], named, indent + "  "))):
-            yield from [*head[0].splitlines(), *inner]
-        stated = re.match(r" *((?:(?:abbrev|unfoldable) )*)pub (?:ruleset )?(?!use |mod )(\S+)", block)
-        if stated and (named is None or stated[2] in named) or block.split()[0] == defined:
-            defined = stated[2] if stated and stated[1] else defined
-            yield from (line for line in block.rstrip().splitlines() if not re.match(r" *(--|$)", line))
-
-
 def function_at(text, number):
     """The last function that begins at or above the line of this number. An attribute belongs to the function below it."""
     lines = text.split("\n")

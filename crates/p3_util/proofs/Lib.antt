@@ -1,9 +1,7 @@
 -- The modules of lemmas of this crate.
-pub mod Callers
 pub mod FilledChunk
 pub mod FilledFront
 pub mod FlatLemmas
-pub mod ItemsAtLemmas
 pub mod JoinedLists
 pub mod JsonLists
 pub mod Loans

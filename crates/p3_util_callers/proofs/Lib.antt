@@ -1,4 +1,6 @@
 -- The modules of lemmas of this crate.
+mod ComposeLemmas
 mod DiagonalLemmas
+mod JoinedLemmas
 mod QuadrantsLemmas
 mod TilesLemmas

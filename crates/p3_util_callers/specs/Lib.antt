@@ -1,2 +1,1 @@
 pub mod Diagonal
-pub mod MapCalls

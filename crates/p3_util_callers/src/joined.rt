@@ -8,7 +8,7 @@ ghost use Rattle.std.proofs.Common.{rules};
 ghost use Rattle.p3_util.specs.Reversal.{IsReversal, IsReversible};
 
 use p3_util::places::Places;
-use p3_util::reverse_counted;
+use crate::uses::count_swaps;
 use std::mem;
 
 /// The items of one slice and then those of another one. When the borrows end, its items are in the
@@ -54,7 +54,7 @@ impl<'a, F> Places for Joined<'a, F> {
 }
 
 /// Exchanges the items at places `i` and `j` of the list that is `front` and then `back`.
-#[tactic(auto, using(p3_util::proofs::Callers::joined_front, p3_util::proofs::Callers::joined_back, p3_util::proofs::Callers::swap_turned))]
+#[tactic(auto, using(crate::proofs::JoinedLemmas::joined_front, crate::proofs::JoinedLemmas::joined_back, crate::proofs::JoinedLemmas::swap_turned))]
 fn exchange_in<F>(front: &mut [F], back: &mut [F], i: usize, j: usize)
     requires first { i < length (front.old ++ back.old) }
     requires second { j < length (front.old ++ back.old) }
@@ -77,7 +77,7 @@ fn exchange_in<F>(front: &mut [F], back: &mut [F], i: usize, j: usize)
 }
 
 /// Exchanges item `i` of `front` and item `j` of `back`.
-#[tactic(auto, using(p3_util::proofs::Callers::joined_across))]
+#[tactic(auto, using(crate::proofs::JoinedLemmas::joined_across))]
 fn exchange_between<F>(front: &mut [F], i: usize, back: &mut [F], j: usize)
     requires first { i < length front.old }
     requires second { j < length back.old }
@@ -98,5 +98,5 @@ pub fn reverse_joined<F>(joined: &mut Joined<F>)
     ensures front { length joined.new.front.now ≡ length joined.old.front.now }
     ensures back { length joined.new.back.now ≡ length joined.old.back.now }
 {
-    reverse_counted(joined);
+    count_swaps(joined);
 }

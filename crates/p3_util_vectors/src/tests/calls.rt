@@ -17,7 +17,7 @@ use p3_util::transpose::{
     transpose_source_region_counted, transpose_source_region_on, transpose_source_split_on,
     transpose_split_on, transpose_square_on,
 };
-use p3_util_callers::transpose::levels_of;
+use p3_util_callers::uses::levels_of;
 use std::process::Abort;
 
 /// A call that reorders a list by exchanges.

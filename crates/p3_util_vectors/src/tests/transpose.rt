@@ -8,7 +8,7 @@ use p3_util::places::{SliceCells, Writes};
 use p3_util::transpose::{
     Region, butterfly_4x4, butterfly_stage1, butterfly_stage2, fits_matrix, fits_square,
 };
-use p3_util_callers::transpose::levels_of;
+use p3_util_callers::uses::levels_of;
 use std::alloc::Global;
 use std::process::Abort;
 

@@ -1,7 +1,7 @@
 use Rattle.std.proofs.Common.{◌≡◌, ℕ, ◌-◌, ◌*◌, ◌/◌, ◌^◌, refl, sym, ◌∙◌, arith}
 use Rattle.p3_util.specs.Steps.{counted}
 use Rattle.p3_util.specs.SwapCounts.{long_swaps, short_swaps, square_swaps}
-use Rattle.p3_util.proofs.Callers.{reversed_by_squares, swaps_around}
+use Rattle.p3_util_callers.proofs.ComposeLemmas.{reversed_by_squares, swaps_around}
 use Rattle.p3_util_callers.proofs.compose.reverse_by_squares.Goals as goal
 
 -- the number of swaps of all three passes

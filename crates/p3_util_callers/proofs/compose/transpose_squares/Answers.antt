@@ -1,6 +1,6 @@
 use Rattle.std.proofs.Common.{◌≡◌, ℕ, ◌+◌, ◌-◌, ◌*◌, ◌%◌, ◌^◌, ◌<◌, ◌≤◌, ◌∙◌, arith}
 use Rattle.std.proofs.lemmas.Nat.{one_shl, pow_pos}
-use Rattle.p3_util.proofs.Callers.{one_square, square_inside, square_more}
+use Rattle.p3_util_callers.proofs.ComposeLemmas.{one_square, square_inside, square_more}
 use Rattle.p3_util_callers.proofs.compose.transpose_squares.Goals as goal
 
 -- where the second square begins

@@ -1,6 +1,6 @@
 -- Each turn of the loop adds the columns of one more block to the region.
 use Rattle.std.proofs.Common.{◌≡◌, ◌+◌, ◌*◌, arith}
-use Rattle.p3_util.proofs.Callers.{region_of_cols}
+use Rattle.p3_util_callers.proofs.ComposeLemmas.{region_of_cols}
 use Rattle.p3_util_callers.proofs.tiles.transpose_blocks.Goals as goal
 
 pub loop-k-preserved : goal.loop-k-preserved

@@ -1,6 +1,6 @@
 -- Each turn of the loop adds one more column to the region.
 use Rattle.std.proofs.Common.{◌≡◌, ℕ, ◌+◌, ◌*◌, ◌<◌, slice_get, arith}
-use Rattle.p3_util.proofs.Callers.{region_of_cols}
+use Rattle.p3_util_callers.proofs.ComposeLemmas.{region_of_cols}
 use Rattle.p3_util_callers.proofs.TilesLemmas.{region_of_column}
 use Rattle.p3_util_callers.proofs.tiles.transpose_by_butterfly.Goals as goal
 

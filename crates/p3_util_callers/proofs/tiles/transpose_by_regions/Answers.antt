@@ -1,6 +1,6 @@
 -- Each turn of the loop adds one more row to the region.
 use Rattle.std.proofs.Common.{◌≤◌, arith}
-use Rattle.p3_util.proofs.Callers.{region_of_rows}
+use Rattle.p3_util_callers.proofs.ComposeLemmas.{region_of_rows}
 use Rattle.p3_util_callers.proofs.TilesLemmas.{rows_from_top}
 use Rattle.p3_util_kernels.specs.declared.transpose.regions.Region.{Region}
 use Rattle.p3_util_callers.proofs.tiles.transpose_by_regions.Goals as goal

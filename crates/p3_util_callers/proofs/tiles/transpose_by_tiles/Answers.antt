@@ -1,6 +1,6 @@
 -- Each turn of the loop adds the rows of one more row of tiles to the region.
 use Rattle.std.proofs.Common.{◌≡◌, arith}
-use Rattle.p3_util.proofs.Callers.{region_of_rows, rows_in_two}
+use Rattle.p3_util_callers.proofs.ComposeLemmas.{region_of_rows, rows_in_two}
 use Rattle.p3_util_callers.proofs.tiles.transpose_by_tiles.Goals as goal
 
 pub loop-row-preserved : goal.loop-row-preserved

@@ -1,6 +1,6 @@
 -- Each turn of the loop adds the columns of one more tile to the region.
 use Rattle.std.proofs.Common.{◌≡◌, arith}
-use Rattle.p3_util.proofs.Callers.{cols_in_two, region_of_cols}
+use Rattle.p3_util_callers.proofs.ComposeLemmas.{cols_in_two, region_of_cols}
 use Rattle.p3_util_callers.proofs.tiles.transpose_row_of_tiles.Goals as goal
 
 pub loop-col-preserved : goal.loop-col-preserved

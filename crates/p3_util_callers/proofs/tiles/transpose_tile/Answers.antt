@@ -1,6 +1,6 @@
 -- Each turn of the loop adds the rows of one more row of blocks to the region.
 use Rattle.std.proofs.Common.{◌≡◌, ◌+◌, ◌*◌, arith}
-use Rattle.p3_util.proofs.Callers.{region_of_rows}
+use Rattle.p3_util_callers.proofs.ComposeLemmas.{region_of_rows}
 use Rattle.p3_util_callers.proofs.tiles.transpose_tile.Goals as goal
 
 pub loop-k-preserved : goal.loop-k-preserved

@@ -1,7 +1,7 @@
 //! A map of the original crate.
 
 use Call::{Get, GetOrInsert, Insert};
-use p3_util_callers::linear_map::Call;
+use crate::tests::linear_map::Call;
 
 /// A script of calls on one map, each with its answer.
 pub const SCRIPT: [(Call<u32, u32>, Option<u32>); 60] = [

@@ -1,6 +1,6 @@
 -- Each logarithm is at most 64, since a usize is below 2 ^ 64, so the sum of two fits.
 use Rattle.std.proofs.Common.{◌≤◌, arith}
-use Rattle.p3_util_callers.proofs.transpose.levels_of.Goals as goal
+use Rattle.p3_util_callers.proofs.uses.levels_of.Goals as goal
 
 pub overflow_add-result : goal.overflow_add-result
 overflow_add-result c =

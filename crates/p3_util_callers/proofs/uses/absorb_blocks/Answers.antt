@@ -1,6 +1,6 @@
 -- The state after all calls, from the run that `apply_to_chunks` made over all bytes.
 use Rattle.std.proofs.Common.{rules, ◌≡◌, lit<}
-use Rattle.p3_util_callers.proofs.chunks.absorb_blocks.Goals as goal
+use Rattle.p3_util_callers.proofs.uses.absorb_blocks.Goals as goal
 
 pub returns-clause-absorbed : goal.returns-clause-absorbed
 returns-clause-absorbed g c =
