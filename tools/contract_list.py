@@ -15,13 +15,12 @@ from rattle_source import declarations, read
 
 LIST = "docs/contracts.txt"
 HEAD = """\
-# The public contracts of the crates on which code may rely, and the names of the definitions. docs/CALLING.md explains how to read a contract, and docs/MODEL.md says in words what is promised. The crates
-# of examples and tests, p3_util_callers, p3_util_transform and p3_util_vectors, are not listed.
+# The public contracts of the crates on which code may rely, and the names of the definitions. docs/CALLING.md explains how to
+# read a contract, and docs/MODEL.md says in words what is promised. Crates of examples and tests are not listed, nor is what
+# only the crates of this repository see, such as all of p3_util_registers, p3_util_parts and p3_util_calls.
 #
 # Below the name of a source are its contracts. All structs are listed, with their private fields, since a clause or a
-# definition may name them. The lines below an implementation of a trait say what a clause sees of that type. A `hidden fn` is
-# for the crates of this repository alone. It is listed because the code of the package that is written by hand trusts some of
-# these, and what is proved of parts stands in them.
+# definition may name them. The lines below an implementation of a trait say what a clause sees of that type.
 # What the root of a crate re-exports, such as `p3_util::NoRoom`, is below its src/lib.rt.
 #
 # The contracts of a crate are followed by the files of its definitions, each with the names that it defines. The file has the
@@ -29,11 +28,7 @@ HEAD = """\
 # names in its contracts come from. Your crate can import the same names, by `ghost use`.
 #
 # Written by: python3 tools/contract_list.py"""
-CRATES = ["p3_util_kernels", "p3_util_registers", "p3_util_parts", "p3_util_calls", "p3_util", "p3_util_run", "p3_util_c"]
-# No code may rely on these: examples and tests.
-EXAMPLES = {"p3_util_callers", "p3_util_transform", "p3_util_vectors"}
-# In the sources of these crates, what only the crate itself sees is listed too.
-INSIDE = r"crates/p3_util_(kernels|registers|parts)/"
+CRATES = ["p3_util_kernels", "p3_util", "p3_util_run", "p3_util_c"]
 # The rows of marks and names of std that are too rare for docs/CALLING.md.
 MARKS = "tools/marks.txt"
 IMPORT = re.compile(r"^ *(?:ghost )?use ([\w.-]+)\.\{([^}]*)\};?(?: *--.*)?\n", re.M)
@@ -45,11 +40,9 @@ def line(indent, code):
     return textwrap.fill(code, 118, initial_indent=" " * indent, subsequent_indent=" " * (indent + 4), break_long_words=False)
 
 
-def function(indent, owner, declared, hidden=""):
-    """The lines of a function: its head, with the owner before its name, and its clauses. If only its crate and the sister
-    crates see it, the mark `hidden` comes first."""
-    mark = hidden if declared.seen_by == "pub(crate)" else ""
-    return [line(indent, f"{mark}fn {owner}{declared.head[3:]}"), *(line(indent + 2, f"{title}: {said}") for title, said in declared.clauses)]
+def function(indent, owner, declared):
+    """The lines of a function: its head, with the owner before its name, and its clauses."""
+    return [line(indent, f"fn {owner}{declared.head[3:]}"), *(line(indent + 2, f"{title}: {said}") for title, said in declared.clauses)]
 
 
 def members(outer):
@@ -62,20 +55,20 @@ def members(outer):
             yield line(4, f"{inner.head} {inner.body}")
 
 
-def contracts(text, seen_by=("pub",), hidden=""):
-    """The contracts of a source that these see. Also all its structs and enums, since a definition may use any of them."""
+def contracts(text):
+    """The public contracts of a source. Also all its structs and enums, since a definition may use any of them."""
     for outer in declarations(text):
         if outer.kind == "impl" and " for " not in outer.head:
             for inner in declarations(outer.body):
-                if inner.kind == "fn" and inner.seen_by in seen_by:
-                    yield from function(2, f"{outer.name()}::", inner, hidden)
+                if inner.kind == "fn" and inner.seen_by == "pub":
+                    yield from function(2, f"{outer.name()}::", inner)
         elif outer.kind == "impl":
             if said := list(members(outer)):
                 yield from [line(2, outer.head), *said]
-        elif outer.seen_by not in seen_by and outer.kind not in ("struct", "enum"):
+        elif outer.seen_by != "pub" and outer.kind not in ("struct", "enum"):
             continue
         elif outer.kind == "fn":
-            yield from function(2, "", outer, hidden)
+            yield from function(2, "", outer)
         elif outer.kind == "trait":
             yield from [line(2, outer.head), *members(outer)]
         else:
@@ -90,7 +83,7 @@ def listed(path):
     if path.endswith(".rt"):
         exported = re.findall(r"^pub use [^;]*;", source, re.M) if path.endswith("/src/lib.rt") else []
         lines = [line(2, re.sub(r"(?<={)\s+|,?\s+(?=})", "", said)) for said in exported]
-        lines += contracts(source, ("pub", "pub(crate)") if re.match(INSIDE, path) else ("pub",), "hidden ")
+        lines += contracts(source)
     else:
         return [line(2, ", ".join(names))] if (names := DEFINED.findall(source)) else [], set()
     said = set(re.findall(r"\w+|[^\w\s]+", "\n".join(lines)))
