@@ -17,29 +17,6 @@ OUTSIDE = set("""
 """.split())
 # These pages mention names that the repository does not have, or no longer has, so their names are not looked up.
 ELSEWHERE = {"rust/CHANGELOG.md", "docs/TRIED.md", "docs/DIFFERENCES.md"}
-# Where CONTRIBUTING says that a public function of the kernels or of p3_util goes.
-WHERE = """crates/p3_util/src/lib.rt crates/p3_util_vectors/src/ crates/p3_util_c/src/ rust/src/lib.rs rust/tests/package/
-    rust/overlay/src/ rust/README.md bench/src/ release/users/ docs/CALLING.md""".split()
-# The names of functions that some of these places do not have, and how the paths of these begin.
-EXCEPT = {
-    # The crate has their modules whole.
-    r"\w*transpose\w*|fits_(?:matrix|square)|butterfly_\w+|(?:de)?serialize": "crates/p3_util/",
-    # Forms for other holders than slices, and tests of preconditions.
-    r"\w+_(?:on|counted|short|long)|fits_\w+": "crates/p3_util_c/ rust/overlay/ rust/README.md bench/ release/",
-    # Calls that the package does not have, or in `kernels` alone.
-    r"is_power_of_three|butterfly_\w+|flat_len|as_base_slice(?:_mut)?|\w+_(?:to|from)_base|(?:de)?serialize":
-        "crates/p3_util_c/ rust/ bench/ release/",
-    # C has no such types, or no need of these calls.
-    r"log2_ceil_u64|checked_\w+|reverse_bits|\w+_chunks\w*|zip_eq": "crates/p3_util_c/",
-    r"indices_arr|branch_hint|assert_clone|pretty_name": "crates/p3_util_c/ bench/ docs/",
-    # The overlay has the original's.
-    r"branch_hint": "rust/overlay/",
-    # Their contracts are all that a caller has to know.
-    r"log2_(?:ceil|floor)_\w+|checked_\w+|butterfly_\w+|(?:de)?serialize": "docs/",
-    # Tested in the other crate of tests.
-    "transpose_square_counted": "crates/p3_util_vectors/",
-    r"transpose_source_region_(?:on|counted)": "rust/tests/package/",
-}
 FILE = r"[\w.-]+(/[\w.-]+)+/?|[\w-]+\.(md|rt|antt|sh|py|rs|h|c|tsv|svg|txt|toml)"
 
 
@@ -154,17 +131,14 @@ def public_functions():
 
 @functools.cache
 def words(pattern):
-    """The words of the files whose paths begin like this. A word in a comment is no use of what it names, except in the table
-    of `kernels` that rust/src/lib.rs has in its documentation."""
-    comment = r"^ *//(?!/ \|).*|\s// .*" if pattern == "rust/src/lib.rs" else r"^ *//.*|\s// .*"
-    texts = (re.sub("" if path.endswith(".md") else comment, "", read(path), flags=re.M) for path in tracked if re.match(pattern, path))
+    """The words of the files whose paths begin like this. A word in a comment is no use of what it names."""
+    texts = (re.sub("" if path.endswith(".md") else r"^ *//.*|\s// .*", "", read(path), flags=re.M) for path in tracked if re.match(pattern, path))
     return {word for text in texts for word in re.findall(r"\w+", text)}
 
 
 def check_functions():
     """Each public function is in a test of p3_util_vectors or of the package. If it promises anything, MODEL has it, or the
-    type that it is a method of. If it has a precondition, a proved caller or a test in Rattle has it. If it is no method,
-    the places of WHERE have it, except those that EXCEPT names."""
+    type that it is a method of. If it has a precondition, a proved caller or a test in Rattle has it."""
     tests = words(r"crates/p3_util_vectors/src/|rust/(tests|src/.*tests)|tests/unproved/")
     callers, model = words(r"crates/p3_util_(callers|vectors|transform)/src/"), words(r"docs/MODEL\.md")
     for path, owner, function in public_functions():
@@ -175,9 +149,6 @@ def check_functions():
             yield f"{path}: docs/MODEL.md does not say what {name} promises"
         if "requires" in kinds and name not in callers:
             yield f"{path}: no proved caller or test has {name}, which has a precondition"
-        lacking = tuple(" ".join(places for names, places in EXCEPT.items() if re.fullmatch(names, name)).split())
-        for where in (where for where in WHERE if not owner and not where.startswith(lacking) and name not in words(where)):
-            yield f"{where} has no {name}, which is in {path}. See CONTRIBUTING's table, and EXCEPT in tests/pages.py"
 
 
 def wrong():
