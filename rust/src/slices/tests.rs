@@ -16,7 +16,7 @@ use super::holders::Bytes;
 use super::holders::{Items, PastCaches, Vector};
 use super::holders::{SliceItems, SliceSource};
 use crate::kernels::bytes::plan_in_bytes;
-use crate::kernels::choice::{Limits, side_of};
+use crate::kernels::choice::Limits;
 use crate::kernels::kernel::HIGH_ROWS;
 use crate::kernels::places::{Block, Cells, Places, Source};
 #[cfg(not(feature = "checked"))]
@@ -31,18 +31,11 @@ type SliceStrips<const SIDE: usize> = Strips<SIDE, HIGH_ROWS>;
 /// Whether items are transposed in registers.
 #[cfg(not(feature = "checked"))]
 pub(super) use super::holders::USES_REGISTERS;
-#[cfg(feature = "checked")]
-pub(super) const USES_REGISTERS: bool = false;
 
 /// From how many bytes on short lists are put by lines in tests that pass these limits.
 pub(super) const fn near() -> Limits {
     let (list, row, column) = (1 << 10, 1, 1);
     Limits { list, row, column }
-}
-
-/// The side of the blocks of items of `size` bytes.
-pub(super) const fn side_by_size(size: usize) -> usize {
-    side_of(size, USES_REGISTERS, cfg!(target_arch = "x86_64"))
 }
 
 /// The index in a matrix of `width` columns and `height` rows of the item that its transpose has at `place`.
@@ -420,40 +413,12 @@ fn puts_and_reads() {
 }
 
 /// A list that begins where a cache line does.
+#[cfg(not(feature = "checked"))]
 #[repr(align(64))]
 struct Aligned<T>([T; 600]);
 
-/// Puts blocks of whole cache lines, and blocks that differ from those by an item or two: in the first cell, in the distance of
-/// two columns, or in the number of rows.
-fn puts_near_lines<T: Copy + PartialEq>(item: impl Fn(usize) -> T, put: impl Fn(&mut [T], &[T], Block)) {
-    let line = 64 / size_of::<T>();
-    let source: Vec<T> = (0..600).map(&item).collect();
-    for (to, height) in (0..=line + 1).flat_map(|to| (2 * line - 2..=2 * line + 2).map(move |height| (to, height))) {
-        for (rows, cols) in [line, line - 1, line + 1]
-            .into_iter()
-            .flat_map(|rows| [(rows, rows), (rows, 1), (rows, 2)])
-        {
-            let (from, width) = (3, line + 3);
-            let mut cells = Aligned([item(999); 600]);
-            let block = Block {
-                rows,
-                cols,
-                from,
-                width,
-                to,
-                height,
-            };
-            put(&mut cells.0, &source, block);
-            let mut wanted = [item(999); 600];
-            for (r, c) in (0..rows).flat_map(|r| (0..cols).map(move |c| (r, c))) {
-                wanted[to + c * height + r] = source[from + r * width + c];
-            }
-            assert!(cells.0 == wanted, "{rows} by {cols} to {to}, {height} apart");
-        }
-    }
-}
-
 /// Puts a block by a holder.
+#[cfg(all(target_os = "linux", not(feature = "checked")))]
 pub(super) fn put_block<T: Copy, H: for<'a> Hold<'a, T, Holder: Cells<Item = T>>>(
     cells: &mut [T],
     source: &[T],
@@ -466,19 +431,6 @@ pub(super) fn put_block<T: Copy, H: for<'a> Hold<'a, T, Holder: Cells<Item = T>>
 #[cfg(not(feature = "checked"))]
 pub(super) fn put_past_caches<T: Copy, D: Register<T>>(cells: &mut [T], source: &[T], block: Block) {
     PastCaches(SliceItems::new(cells).in_registers::<D>()).put_block(&SliceSource::new(source), block);
-}
-
-#[test]
-fn blocks_near_lines() {
-    of_each_holder!(u32, Holder => puts_near_lines(|i| i as u32, put_block::<_, Holder>));
-    of_each_holder!(u64, Holder => puts_near_lines(|i| i as u64, put_block::<_, Holder>));
-    of_each_holder!(u128, Holder => puts_near_lines(|i| i as u128, put_block::<_, Holder>));
-    #[cfg(not(feature = "checked"))]
-    if USES_REGISTERS {
-        puts_near_lines(|i| i as u32, put_past_caches::<_, Pair<Of<4>>>);
-        puts_near_lines(|i| i as u64, put_past_caches::<_, Pair<Of<8>>>);
-        puts_near_lines(|i| i as u128, put_past_caches::<_, Two<Whole>>);
-    }
 }
 
 /// A block of this many rows is stored past the caches only if each of its columns is a line of the output. If it has one column,
@@ -595,10 +547,6 @@ fn shuffles() {
 
 #[cfg(not(feature = "checked"))]
 mod lines;
-
-mod choice;
-
-mod uses;
 
 #[cfg(any(debug_assertions, feature = "checked"))]
 mod refused {

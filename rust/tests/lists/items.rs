@@ -101,13 +101,6 @@ fn numbers() {
     serves(|i| i as f64);
 }
 
-#[test]
-fn words_of_some_lengths() {
-    serves(|i| [i as u32; 5]);
-    serves(|i| [i as u64, 1, 2, 3]);
-    serves(|i| [i as u64; 9]);
-}
-
 /// Items of more than 72 bytes.
 #[test]
 fn large_items() {
@@ -166,24 +159,6 @@ fn items_with_destructors() {
     moves(|i| (text(i), text(i + 1), Box::new(i), i as u8));
     moves(|i| vec![Box::new(i); i % 3]);
     moves(|i| array::from_fn::<_, 50, _>(|k| text(i + k)));
-}
-
-/// Rows of widths up to and beyond those of narrow rows.
-#[test]
-fn rows_of_all_widths() {
-    for (width, bits) in (1..=34)
-        .chain([64, 65])
-        .flat_map(|width| (0..=7).map(move |bits| (width, bits)))
-    {
-        reverses(|i| (i * 7 + (i >> 8) * 31) as u8, bits, width);
-        reverses(|i| i as u16, bits, width);
-        reverses(|i| i as u32, bits, width);
-        reverses(|i| [i as u8; 5], bits, width);
-        reverses(|i| i, bits, width);
-        reverses(|i| [i as u32; 5], bits, width);
-        reverses(|i| [i as u64; 4], bits, width);
-        reverses(Box::new, bits, width);
-    }
 }
 
 /// Reverses 2^`bits` rows of `width` owners twice. Until the list is dropped no owner is dropped, and then each of them

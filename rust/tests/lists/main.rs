@@ -2,8 +2,6 @@
 
 #[path = "../package/common.rs"]
 mod common;
-#[cfg(target_pointer_width = "64")]
-mod cuts;
 mod items;
 #[cfg(target_pointer_width = "64")]
 mod parts;

@@ -157,24 +157,6 @@ fn none_and_one() {
     }
 }
 
-/// The number of parts of a list of `len` items.
-fn count<F: Clone + Send + Sync>(item: F, len: usize) -> usize {
-    let mut list = vec![item; len];
-    reversal(&mut list, 9).len()
-}
-
-/// A list is cut if it has more items than one part may have.
-#[test]
-fn lists_of_one_part() {
-    let is_cut = cfg!(not(feature = "checked"));
-    let check = |counts: [usize; 2]| assert_eq!(counts.map(|count| count > 1), [false, is_cut]);
-    check([count(0u8, 1 << 16), count(0u8, 1 << 17)]);
-    check([count(0u64, 1 << 16), count(0u64, 1 << 17)]);
-    check([count([0u64; 4], 1 << 16), count([0u64; 4], 1 << 17)]);
-    check([count([0u64; 8], 1 << 15), count([0u64; 8], 1 << 16)]);
-    check([count([0u64; 64], 1 << 12), count([0u64; 64], 1 << 13)]);
-}
-
 /// The longer side is cut, except that with the feature `checked` always the columns are. A part that is not run leaves
 /// its cells as they are.
 #[test]
@@ -273,26 +255,6 @@ fn debug_shows_numbers() {
     let mut parts = reversal(&mut list, 2);
     assert_eq!(format!("{parts:?}"), "ReversalParts { left: 1 }");
     assert_eq!(format!("{:?}", parts.next().unwrap()), "ReversalPart { number: 0 }");
-}
-
-/// Asserts what `Debug` shows of parts and of each of them, while one after the other is taken.
-fn check_debug<P: Debug>(name: &str, mut parts: impl ExactSizeIterator<Item = P> + Debug) {
-    let count = parts.len();
-    for number in 0..count {
-        assert_eq!(format!("{parts:?}"), format!("{name}s {{ left: {} }}", count - number));
-        let part = parts.next().unwrap();
-        assert_eq!(format!("{part:?}"), format!("{name} {{ number: {number} }}"));
-        assert_eq!(format!("{part:#?}"), format!("{name} {{\n    number: {number},\n}}"));
-    }
-    assert_eq!(format!("{parts:?}"), format!("{name}s {{ left: 0 }}"));
-}
-
-#[test]
-fn debug_of_parts_that_are_partly_taken() {
-    let (input, mut output) = ([3u8; 96], [0; 96]);
-    check_debug("TransposePart", transpose(&input, &mut output, 96, 1, 4));
-    let mut list = vec![7u8; 1 << 17];
-    check_debug("ReversalPart", reversal(&mut list, 3));
 }
 
 /// A call that gives parts, and each part, must not be dropped silently. The compiler warns of each statement, as the

@@ -70,33 +70,8 @@ fn shapes_of_bytes() {
 }
 
 #[test]
-fn shapes_of_half_words() {
-    check_shapes(|i| i as u32);
-}
-
-#[test]
 fn shapes_of_words() {
     check_shapes(|i| i as u64);
-}
-
-#[test]
-fn shapes_of_double_words() {
-    check_shapes(|i| i as u128);
-}
-
-#[test]
-fn shapes_of_three_bytes() {
-    check_shapes(|i| [(i % 251) as u8, (i % 241) as u8, (i % 239) as u8]);
-}
-
-#[test]
-fn shapes_of_eight_bytes() {
-    check_shapes(|i| i.to_le_bytes());
-}
-
-#[test]
-fn shapes_of_four_words() {
-    check_shapes(|i| [i as u64, 1, i as u64, 3]);
 }
 
 /// The large shapes of the original's tests, more that the benchmark measures, the smallest matrix that is split, and single rows

@@ -5,7 +5,7 @@ use std::array::from_fn;
 use std::collections::BTreeSet;
 use std::vec::Vec;
 
-use super::{cut, one_part_reversal, ranges_if_cut, row_reversal, transpose};
+use super::{one_part_reversal, ranges_if_cut, row_reversal, transpose};
 use crate::kernels::lines::Lines;
 use crate::kernels::parts::numbers::Plan;
 use crate::kernels::parts::{Cut, RowPairs, TransposePlan};
@@ -86,42 +86,6 @@ fn regions_of_matrices() {
 /// Into how many ranges a side is cut at most, for a list that is cut.
 fn ranges(asked: usize) -> usize {
     ranges_if_cut(1, 0, asked).unwrap()
-}
-
-/// A list of rows is one part if it is not cut, as up to a given number of items.
-#[test]
-fn lists_up_to_one_part() {
-    let count = |len, row_width, ranges| cut(&mut std::vec![0u8; len], row_width, ranges).len();
-    assert_eq!(
-        [count(0, 1, Some(5)), count(0, 1, None), count(0, 0, Some(5))],
-        [0, 0, 0]
-    );
-    assert_eq!([count(1 << 12, 1, Some(5)), count(1 << 12, 1, None)], [10, 1]);
-    assert_eq!([count(3 << 9, 3, Some(5)), count(3 << 9, 3, None)], [20, 1]);
-    // Four times this number does not fit.
-    let many = usize::MAX / 4 + 2;
-    assert_eq!([1, 2, 5, 26].map(ranges), [1, 3, 5, 11]);
-    assert_eq!(ranges(many), ranges(usize::MAX));
-    let are_cut = [1 << 16, 1 << 17].map(|len| row_reversal(&mut std::vec![0u8; len], 4, 5).len() > 1);
-    assert_eq!(are_cut, [false, cfg!(not(feature = "checked"))]);
-}
-
-/// A list of up to 2^16 items is one part. If an item has more than 32 bytes, a list is one part up to as many items as
-/// 2^21 bytes hold. With the feature `checked` every list is one part.
-#[test]
-fn items_of_one_part() {
-    let wanted = |items| if cfg!(feature = "checked") { usize::MAX } else { items };
-    let of_few_bytes = [
-        one_part_reversal::<()>(),
-        one_part_reversal::<u8>(),
-        one_part_reversal::<u64>(),
-        one_part_reversal::<[u8; 31]>(),
-        one_part_reversal::<[u8; 32]>(),
-    ];
-    assert_eq!(of_few_bytes, [wanted(65_536); 5]);
-    assert_eq!(one_part_reversal::<[u8; 33]>(), wanted(63_550));
-    assert_eq!(one_part_reversal::<[u64; 8]>(), wanted(32_768));
-    assert_eq!(one_part_reversal::<[u64; 1 << 19]>(), wanted(0));
 }
 
 /// Item `number` of a list. Its first byte tells it from most others, and its first eight from all.

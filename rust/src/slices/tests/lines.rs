@@ -1,17 +1,10 @@
 //! Tests of transposes by cache lines, in two parts and more. For `run_near` a list of 1024 bytes is long enough for that.
 
-use core::cell::Cell;
 use std::boxed::Box;
 use std::fmt::Debug;
 use std::vec::Vec;
 
-use super::{Aligned, Of, transposed};
-use crate::kernels::lines::Lines;
-use crate::kernels::places::{Block, Cells, Source};
-use crate::kernels::registers::Pair;
-use crate::kernels::registers::blocks::LinesOfCells;
-use crate::kernels::transpose::{Matrix, PutRegion};
-use crate::slices::holders::{PastCaches, SliceItems, SliceSource};
+use super::transposed;
 use crate::slices::parts::{TransposePart, transpose};
 
 /// Transposes a matrix in some parts, and compares each item of the output with that of the definition. `input` and
@@ -92,17 +85,6 @@ fn all_heights() {
     }
 }
 
-#[test]
-fn all_widths() {
-    for (width, height) in (1..=40).flat_map(|width| [15, 16, 37, 64, 131].map(|height| (width, height))) {
-        for parts in [1, 2, 4] {
-            transposes([width, height], [3, 5], parts, |number| number as u32);
-            transposes([width, height], [2, 7], parts, |number| number);
-            transposes([width, height], [1, 3], parts, |number| [number, 7]);
-        }
-    }
-}
-
 /// A whole call, of more items than a matrix has that is not split.
 #[test]
 #[cfg_attr(miri, ignore = "too long")]
@@ -124,123 +106,4 @@ fn padding_and_pointers() {
     transposes([40, 64], [1, 3], 3, |number| &TEXT[number % 128]);
     transposes([40, 64], [1, 3], 3, |number| (number as u8, number as u32));
     transposes([40, 64], [1, 3], 3, |number| (number % 3 > 0).then_some(number as u16));
-}
-
-/// Counts the lines that a holder may stream, and puts nothing.
-struct Streamed<'a> {
-    cells: PastCaches<'a, u32, Pair<Of<4>>>,
-    lines: usize,
-}
-
-impl Cells for Streamed<'_> {
-    type Item = u32;
-
-    fn len(&self) -> usize {
-        self.cells.len()
-    }
-
-    fn put(&mut self, _: usize, _: u32) {}
-
-    fn put_block<R: Source<Item = u32>>(&mut self, _: &R, block: Block) {
-        let is_streamed = block.rows == 16 && self.cells.may_stream_lines(block);
-        self.lines += block.cols * usize::from(is_streamed);
-    }
-}
-
-/// Every cache line that lies within a column is streamed, wherever in a line the list begins.
-#[test]
-fn lines_at_all_offsets() {
-    for (before, width, height) in (0..16).flat_map(|before| (1..=48).map(move |height| (before, 12, height))) {
-        let (source, mut list) = ([0; 12 * 48], Aligned([0; 600]));
-        let len = width * height;
-        let cells = PastCaches(SliceItems::new(&mut list.0[before..before + len]).in_registers());
-        let matrix = Matrix::new(SliceSource::new(&source[..len]), width, height);
-        let put = Lines::new(16, before).put(Streamed { cells, lines: 0 }, matrix, matrix.whole());
-        let within = |x: usize| {
-            let first = before + x * height;
-            ((first + height) / 16).saturating_sub(first.div_ceil(16))
-        };
-        assert_eq!(
-            put.lines,
-            (0..width).map(within).sum(),
-            "{height} rows from {before} on"
-        );
-    }
-}
-
-/// Notes where each block begins, by its row and its column, and puts nothing.
-struct Noted {
-    height: usize,
-    len: usize,
-    blocks: Vec<(usize, usize)>,
-}
-
-impl Cells for Noted {
-    type Item = ();
-
-    fn len(&self) -> usize {
-        self.len
-    }
-
-    fn put(&mut self, _: usize, (): ()) {}
-
-    fn put_block<R: Source<Item = ()>>(&mut self, _: &R, block: Block) {
-        self.blocks.push((block.to % self.height, block.to / self.height));
-    }
-}
-
-/// A source that counts hints.
-#[derive(Clone, Copy)]
-struct Hinted<'a> {
-    len: usize,
-    hints: &'a Cell<usize>,
-}
-
-impl Source for Hinted<'_> {
-    type Item = ();
-
-    fn len(&self) -> usize {
-        self.len
-    }
-
-    fn at(&self, _: usize) {}
-
-    fn expect(&self, _: usize) {
-        self.hints.set(self.hints.get() + 1);
-    }
-}
-
-/// A matrix is put panel after panel, of 1024 columns each, and by rows of lines. Of a matrix of fewer than 512 columns, or whose
-/// columns begin at other places of a line, the next line of the input is asked for once in each column.
-#[test]
-fn panels_and_hints() {
-    for (width, height, skew) in [
-        (48, 64, 0),
-        (496, 48, 0),
-        (512, 48, 0),
-        (1040, 32, 0),
-        (2064, 48, 0),
-        (24, 72, 8),
-    ] {
-        let (hints, len) = (Cell::new(0), width * height);
-        let matrix = Matrix::new(Hinted { len, hints: &hints }, width, height);
-        let blank = Noted {
-            height,
-            len,
-            blocks: Vec::new(),
-        };
-        let put = Lines::new(16, 0).put(blank, matrix, matrix.whole());
-        if skew > 0 {
-            assert!(hints.get() >= width, "{width} by {height}");
-            continue;
-        }
-        let panels = (0..width).step_by(1024).flat_map(|left| {
-            let blocks = move |row| (left..width.min(left + 1024)).step_by(16).map(move |col| (row, col));
-            (0..height).step_by(16).flat_map(blocks)
-        });
-        assert!(put.blocks.into_iter().eq(panels), "{width} by {height}");
-        let is_asked = |left: &usize| width - left < 512;
-        let asked: usize = (0..width).step_by(1024).filter(is_asked).map(|left| width - left).sum();
-        assert_eq!(hints.get(), asked * (height / 16 - 1), "{width} by {height}");
-    }
 }
