@@ -3,7 +3,7 @@
 
 use p3_util_proved::kernels::Index;
 use p3_util_proved::kernels::places::{Places, Swaps};
-use p3_util_proved::kernels::reverse::{fits_rows, reverse_counted, reverse_index_bits_on, reverse_rows_counted};
+use p3_util_proved::kernels::reverse::{fits_rows, reverse_index_bits_on, reverse_row_index_bits_on};
 use p3_util_proved::reverse_bits_len;
 
 /// Record i is `(numbers[i], names[i])`. Both lists have the same length.
@@ -45,18 +45,18 @@ fn main() {
     // No call of `kernels` tests its precondition, so the caller does. 2^5 of the 2^10 places stay as they are, and
     // each swap moves two of the others.
     assert!(fits_rows(records.len(), 1));
-    let swaps = reverse_counted(&mut records);
+    let mut counter = Swaps::new(&mut records);
+    reverse_index_bits_on(&mut counter);
+    let swaps = counter.swaps();
     println!("{swaps} swaps reverse {} records", records.len());
     assert_eq!(swaps, (1024 - 32) / 2);
     assert!((0..1024).all(|i| records.names[i] == before.names[reverse_bits_len(i, 10)]));
 
-    // A counter that the caller made goes on from its count. After a second reversal the records are as before.
+    // A second reversal leaves the records as before. Then the counter goes on with rows of four records: 2^4 of the 2^8
+    // rows stay where they are.
     let mut counter = Swaps::new(&mut records);
     reverse_index_bits_on(&mut counter);
-    assert_eq!(counter.swaps(), swaps);
-    assert_eq!(records, before);
-
-    // Rows of four records. 2^4 of the 2^8 rows stay where they are.
-    assert_eq!(reverse_rows_counted(&mut records, 4), 4 * (256 - 16) / 2);
+    reverse_row_index_bits_on(&mut counter, 4);
+    assert_eq!(counter.swaps(), swaps + 4 * (256 - 16) / 2);
     assert_eq!(records.numbers[4..8], [512, 513, 514, 515]);
 }

@@ -49,22 +49,22 @@ mod bits;
 ///
 /// | Call of [`reverse`](kernels::reverse) or [`transpose`](kernels::transpose) | Test |
 /// |---|---|
-/// | `reverse_counted`, `reverse_index_bits_on`, `reverse_index_bits_short` | `fits_rows(len, 1)` |
+/// | `reverse_index_bits_on`, `reverse_index_bits_short` | `fits_rows(len, 1)` |
 /// | `reverse_index_bits_long` | `len.is_power_of_two() && len >= 4` |
-/// | `reverse_rows_counted`, `reverse_row_index_bits_on` | `fits_rows(len, row_width)` |
+/// | `reverse_row_index_bits_on` | `fits_rows(len, row_width)` |
 /// | `reverse_chunks_on` | `checked_log_size_sum(lb_num_chunks, lb_chunk_size)` is `Some((_, items))` where `items` is `len` |
-/// | `transpose_counted`, `transpose_source_counted`, `transpose_on`, `transpose_source_on` | `fits_matrix(input_len, len, width, height)` |
-/// | `transpose_region_counted`, `transpose_region_on`, `transpose_source_region_counted`, `transpose_source_region_on` | the same, and `region.fits(width, height)` |
+/// | `transpose_on`, `transpose_source_on` | `fits_matrix(input_len, len, width, height)` |
+/// | `transpose_region_on` | the same, and `region.fits(width, height)` |
 /// | `transpose_split_on`, `transpose_source_split_on` | the same as for a region; 64 `levels` are always enough |
-/// | `transpose_square_on`, `transpose_square_counted` | `fits_square(len, base, log_stride, log_size)` |
+/// | `transpose_square_on` | `fits_square(len, base, log_stride, log_size)` |
 ///
 /// A reversal needs [`Places`](kernels::places::Places). A transpose reads from a [`Source`](kernels::places::Source) and
 /// writes to [`Cells`](kernels::places::Cells). This example is for systems of 64 bits. On others, each `usize` of a trait is
 /// an [`Index`](kernels::Index):
 ///
 /// ```
-/// use p3_util_proved::kernels::places::{Cells, Places, Source};
-/// use p3_util_proved::kernels::{reverse::reverse_counted, transpose::transpose_source_counted};
+/// use p3_util_proved::kernels::places::{Cells, Places, Source, Swaps, Writes};
+/// use p3_util_proved::kernels::{reverse::reverse_index_bits_on, transpose::transpose_source_on};
 ///
 /// /// Every second item of a slice.
 /// struct Even<'a>(&'a mut [usize]);
@@ -91,11 +91,15 @@ mod bits;
 /// }
 ///
 /// let mut list: Vec<usize> = (0..16).collect();
-/// assert_eq!(reverse_counted(&mut Even(&mut list)), 2);
+/// let mut swaps = Swaps::new(Even(&mut list));
+/// reverse_index_bits_on(&mut swaps);
+/// assert_eq!(swaps.swaps(), 2);
 /// assert_eq!(list[..8], [0, 1, 8, 3, 4, 5, 12, 7]);
 ///
 /// // The input has two rows of three items, which are computed when they are read.
-/// assert_eq!(transpose_source_counted(&Squares(6), &mut Even(&mut list[..12]), 3, 2), 6);
+/// let mut writes = Writes::new(Even(&mut list[..12]));
+/// transpose_source_on(&Squares(6), &mut writes, 3, 2);
+/// assert_eq!(writes.writes(), 6);
 /// assert_eq!(list[..12], [0, 1, 9, 3, 1, 5, 16, 7, 4, 9, 25, 11]);
 /// ```
 #[allow(clippy::len_without_is_empty, reason = "a kernel asks a holder for its length alone")]

@@ -19,9 +19,9 @@ pub use p3_util_kernels::bits::{
     pretty_name, reverse_bits, reverse_bits_len,
 };
 pub use p3_util_kernels::reverse::{
-    fits_rows, reverse_chunks_on, reverse_counted, reverse_index_bits_long, reverse_index_bits_on,
-    reverse_index_bits_short, reverse_row_index_bits_on, reverse_rows_counted,
-    reverse_slice_index_bits, reverse_slice_row_index_bits,
+    fits_rows, reverse_chunks_on, reverse_index_bits_long, reverse_index_bits_on,
+    reverse_index_bits_short, reverse_row_index_bits_on, reverse_slice_index_bits,
+    reverse_slice_row_index_bits,
 };
 pub use p3_util_kernels::{bits, laws, places, reverse, transpose};
 pub use views::{

@@ -7,8 +7,8 @@ ghost use Rattle.std.specs.Prelude.{◌≡◌, ◌+◌, ◌++◌, ◌^◌, ◌<�
 ghost use Rattle.std.proofs.Common.{rules};
 ghost use Rattle.p3_util.specs.Reversal.{IsReversal, IsReversible};
 
-use p3_util::places::Places;
 use crate::uses::count_swaps;
+use p3_util::places::Places;
 use std::mem;
 
 /// The items of one slice and then those of another one. When the borrows end, its items are in the

@@ -16,8 +16,9 @@ ghost use Rattle.p3_util.specs.Transpose.{IsTranspose};
 ghost use prog.Memory.{size};
 ghost use denote.Param.{layout};
 
+use crate::uses::levels_of;
 use p3_util::places::{Cells, Source, Writes};
-use p3_util::transpose::{Region, butterfly_4x4, transpose_source_region_counted};
+use p3_util::transpose::{Region, butterfly_4x4, transpose_source_split_on};
 
 /// The number of rows and of columns of a tile, which is put as blocks of 4 by 4.
 const BLOCKED_SIDE: usize = 16;
@@ -190,7 +191,8 @@ where
     if rows == BLOCKED_SIDE && cols == BLOCKED_SIDE {
         transpose_tile(input, cells, part, width, height);
     } else {
-        transpose_source_region_counted(input, cells, part, width, height);
+        let mut out = Writes::new(cells);
+        transpose_source_split_on(input, &mut out, part, width, height, levels_of(rows, cols));
     }
 }
 

@@ -21,9 +21,8 @@
 //! out a step nor make an extra one.
 //!
 //! A reference to a holder is a holder too. A call on a slice runs its kernel on a holder of that
-//! slice. A call whose name ends in `_counted` is given a reference to a holder. It runs its kernel
-//! on a new counter around that reference. A call whose name ends in `_on`, `_short` or `_long` is
-//! given a counter. It runs its kernel on a counter that continues from the given count.
+//! slice. A call whose name ends in `_on`, `_short` or `_long` is given a counter. It runs its
+//! kernel on a counter that continues from the given count.
 
 ghost use Rattle.std.specs.Prelude.{◌≡◌, ℕ, ◌+◌, ◌-◌, ◌*◌, ◌<◌, ◌≤◌, ◌⊎◌, List, Some, IfSome, length, swap, slice_get, slice_set};
 ghost use Rattle.p3_util_kernels.specs.BlockPut.{BlockFits, IsBlockPut, block_items};

@@ -68,26 +68,6 @@ pub fn reverse_slice_index_bits<F>(vals: &mut [F])
     let _ = reverse_items(vals);
 }
 
-/// Reverses the order of `places` by index bits, and returns the number of swaps.
-///
-/// With 2^k items, index `i` gets the item from the index that has the k bits of `i` in reversed
-/// order. A list of n items takes at most 3n/2 swaps, which are counted from 0. The length must be
-/// zero or a power of two, which `fits_rows(places.len(), 1)` checks.
-#[tactic(auto, using(crate::proofs::ReverseLemmas::SwapCounts::reversal_bound, crate::proofs::ReverseLemmas::Reversal::reversed_place))]
-#[inline(always)]
-pub fn reverse_counted<S: Places>(places: &mut S) -> u128
-    requires { IsReversible (length (S.items places.old)) }
-    ensures order { IsReversal (S.items places.old) (S.items places.new) }
-    ensures inverse { IsReversal (S.items places.new) (S.items places.old) }
-    ensures at { (k i : ℕ) → length (S.items places.old) ≡ 2 ^ k → i < 2 ^ k
-        → slice_get (S.items places.new) i ≡ slice_get (S.items places.old) (rev k i) }
-    ensures count { result ≡ reversal_swaps (length (S.items places.old)) }
-    ensures bound { result ≤ 3 * length (S.items places.old) / 2 }
-    ensures holder { S.same_holder result places.old places.new }
-{
-    reverse_index_bits(Swaps::new(places)).swaps()
-}
-
 /// Reverses the order of the rows of `vals` by index bits, and does not check the length: the rows
 /// must have `row_width` items each, and their number must be zero or a power of two, which
 /// `fits_rows(vals.len(), row_width)` checks.
@@ -102,29 +82,6 @@ pub fn reverse_slice_row_index_bits<F>(vals: &mut [F], row_width: usize)
         → slice_get vals.new (r * row_width + j) ≡ slice_get vals.old (rev k r * row_width + j) }
 {
     let _ = reverse_rows_of_items(vals, row_width);
-}
-
-/// Reverses the order of the rows of `places` by index bits, and returns the number of swaps. Each
-/// row has `row_width` items.
-///
-/// With 2^k rows, the row at index `r` comes from the index that has the k bits of `r` in reversed
-/// order. The swaps are counted from 0. The number of rows must be zero or a power of two, which
-/// [`fits_rows`] checks.
-#[tactic(auto, using(crate::proofs::ReverseLemmas::SwapCounts::rows_bound))]
-#[inline(always)]
-pub fn reverse_rows_counted<S: Places>(places: &mut S, row_width: usize) -> u128
-    requires { FitsRows (length (S.items places.old)) row_width }
-    ensures order { IsRowReversal row_width (S.items places.old) (S.items places.new) }
-    ensures inverse { IsRowReversal row_width (S.items places.new) (S.items places.old) }
-    ensures at { (k r j : ℕ) → length (S.items places.old) ≡ row_width * 2 ^ k → r < 2 ^ k
-        → j < row_width → slice_get (S.items places.new) (r * row_width + j)
-        ≡ slice_get (S.items places.old) (rev k r * row_width + j) }
-    ensures count { result ≡ row_swaps (length (S.items places.old)) row_width }
-    ensures bound { result ≤ length (S.items places.old) / 2 }
-    ensures holder { S.same_holder result places.old places.new }
-{
-    let rows = RowDigits::of(places.len(), row_width);
-    reverse_rows(Swaps::new(places), rows).swaps()
 }
 
 /// Reverses `m` by index bits, as [`reverse_slice_index_bits`] does: by the short path up to 8192

@@ -37,10 +37,8 @@ pub(crate) mod ways;
 use crate::places::{Cells, SliceCells, SliceSource, Source};
 pub use butterfly::{butterfly_4x4, butterfly_stage1, butterfly_stage2};
 pub use counted::{
-    fits_square, transpose_counted, transpose_on, transpose_region_counted, transpose_region_on,
-    transpose_source_counted, transpose_source_on, transpose_source_region_counted,
-    transpose_source_region_on, transpose_source_split_on, transpose_split_on,
-    transpose_square_counted, transpose_square_on,
+    fits_square, transpose_on, transpose_region_on, transpose_source_on, transpose_source_split_on,
+    transpose_split_on, transpose_square_on,
 };
 pub(crate) use order::{Order, TINY_MATRIX};
 pub(crate) use regions::Matrix;
@@ -83,7 +81,7 @@ pub fn transpose<T: Copy>(input: &[T], output: &mut [T], width: usize, height: u
     let _ = transpose_items(Matrix::new(SliceSource::new(input), width, height), output);
 }
 
-/// The kernel of [`transpose_source_region_on`]. It says by the bounds of the region, too, which
+/// The kernel of [`transpose_region_on`]. It says by the bounds of the region, too, which
 /// cells it puts and which stay.
 #[tactic(auto, using(crate::proofs::TransposeLemmas::Region::region_put))]
 #[inline(always)]

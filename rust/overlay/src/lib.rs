@@ -36,7 +36,7 @@ pub mod proved {
 
     /// Does the same as [`p3_util_proved::reverse_slice_row_index_bits`]. With the feature `parallel`, long lists are
     /// reversed on all threads, so items must be `Send`, with and without the feature. For other items use
-    /// [`kernels::reverse::reverse_rows_counted`] with a [`kernels::places::SlicePlaces`] of the list.
+    /// [`kernels::reverse::reverse_row_index_bits_on`] with a counter over a [`kernels::places::SlicePlaces`] of the list.
     ///
     /// # Panics
     ///

@@ -22,9 +22,8 @@
 //! out a step nor make an extra one.
 //!
 //! A reference to a holder is a holder too. A call on a slice runs its kernel on a holder of that
-//! slice. A call whose name ends in `_counted` is given a reference to a holder. It runs its kernel
-//! on a new counter around that reference. A call whose name ends in `_on`, `_short` or `_long` is
-//! given a counter. It runs its kernel on a counter that continues from the given count.
+//! slice. A call whose name ends in `_on`, `_short` or `_long` is given a counter. It runs its
+//! kernel on a counter that continues from the given count.
 
 #[cfg(target_pointer_width = "32")]
 use crate::width::Index as usize;

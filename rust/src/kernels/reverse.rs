@@ -56,16 +56,6 @@ pub(crate) fn reverse_slice_index_bits<F>(vals: &mut [F]) {
     let _ = reverse_items(vals);
 }
 
-/// Reverses the order of `places` by index bits, and returns the number of swaps.
-///
-/// With 2^k items, index `i` gets the item from the index that has the k bits of `i` in reversed
-/// order. A list of n items takes at most 3n/2 swaps, which are counted from 0. The length must be
-/// zero or a power of two, which `fits_rows(places.len(), 1)` checks.
-#[inline(always)]
-pub fn reverse_counted<S: Places>(places: &mut S) -> u128 {
-    reverse_index_bits(Swaps::new(places)).swaps()
-}
-
 /// Reverses the order of the rows of `vals` by index bits, and does not check the length: the rows
 /// must have `row_width` items each, and their number must be zero or a power of two, which
 /// `fits_rows(vals.len(), row_width)` checks.
@@ -75,18 +65,6 @@ pub fn reverse_counted<S: Places>(places: &mut S) -> u128 {
 #[allow(dead_code)]
 pub(crate) fn reverse_slice_row_index_bits<F>(vals: &mut [F], row_width: usize) {
     let _ = reverse_rows_of_items(vals, row_width);
-}
-
-/// Reverses the order of the rows of `places` by index bits, and returns the number of swaps. Each
-/// row has `row_width` items.
-///
-/// With 2^k rows, the row at index `r` comes from the index that has the k bits of `r` in reversed
-/// order. The swaps are counted from 0. The number of rows must be zero or a power of two, which
-/// [`fits_rows`] checks.
-#[inline(always)]
-pub fn reverse_rows_counted<S: Places>(places: &mut S, row_width: usize) -> u128 {
-    let rows = RowDigits::of(places.len(), row_width);
-    reverse_rows(Swaps::new(places), rows).swaps()
 }
 
 /// Reverses `m` by index bits, as [`reverse_slice_index_bits`] does: by the short path up to 8192

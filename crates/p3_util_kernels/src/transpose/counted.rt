@@ -1,7 +1,4 @@
-//! Transposes over any holder, and over counters.
-//!
-//! A call whose name ends in `_on` adds to a counter that its caller made. One whose name ends in
-//! `_counted` counts from 0, and returns the number.
+//! Transposes over any holder, by a counter that the caller made, to whose count they add.
 
 ghost use Rattle.std.specs.Prelude.{◌≡◌, ℕ, ◌+◌, ◌-◌, ◌*◌, ◌/◌, ◌^◌, ◌<◌, ◌≤◌, ◌⊎◌, ◌↔◌, IsTrue, length, slice_get};
 ghost use Rattle.p3_util_kernels.specs.Levels.{lev, nest};
@@ -17,45 +14,6 @@ use crate::transpose::split::put_split;
 use crate::transpose::square::transpose_square;
 use crate::transpose::strips::Strips;
 use crate::transpose::{put_region, transpose_by_shape};
-
-/// Writes the transpose of `input`, a matrix of `height` rows of `width` items, to `cells`, and
-/// returns the number of writes.
-///
-/// The item at `y * width + x` of `input` is written to cell `x * height + y`. The writes are
-/// counted from 0, and there are exactly `width * height`. Both lengths must be `width * height`,
-/// which [`fits_matrix`](crate::transpose::fits_matrix) checks.
-pub fn transpose_counted<C: Cells>(
-    input: &[C::Item],
-    cells: &mut C,
-    width: usize,
-    height: usize,
-) -> u128
-    requires input_fits { length input.now ≡ width * height }
-    requires output_fits { length (C.items cells.old) ≡ width * height }
-    ensures order { IsTranspose width height input.now (C.items cells.new) }
-    ensures count { result ≡ width * height }
-    ensures holder { C.same_holder result cells.old cells.new }
-{
-    transpose_source_counted(&SliceSource::new(input), cells, width, height)
-}
-
-/// Writes the transpose of any source to `cells`, as [`transpose_counted`] does for a slice.
-///
-/// Both lengths must be `width * height`, which [`fits_matrix`](crate::transpose::fits_matrix)
-/// checks.
-pub fn transpose_source_counted<R, C>(input: &R, cells: &mut C, width: usize, height: usize) -> u128
-where
-    C: Cells,
-    R: Source<Item = C::Item>,
-    requires input_fits { length (R.items input.now) ≡ width * height }
-    requires output_fits { length (C.items cells.old) ≡ width * height }
-    ensures order { IsTranspose width height (R.items input.now) (C.items cells.new) }
-    ensures count { result ≡ width * height }
-    ensures holder { C.same_holder result cells.old cells.new }
-{
-    let matrix = Matrix::new(input, width, height);
-    transpose_by_shape(Writes::new(cells), matrix).writes()
-}
 
 /// Writes the transpose of `input` to `out`, as [`transpose`](crate::transpose::transpose) does, in
 /// exactly `width * height` writes.
@@ -124,104 +82,9 @@ pub fn transpose_region_on<C: Cells>(
     ensures count { out.new.count ≡ counted out.old.count (items_of region) }
     ensures holder { C.same_holder (items_of region) out.old.holder out.new.holder }
 {
-    transpose_source_region_on(&SliceSource::new(input), out, region, width, height);
-}
-
-/// Writes the transpose of a region of any source to `out`, as [`transpose_region_on`] does for a
-/// slice. The preconditions are the same.
-pub fn transpose_source_region_on<R, C>(
-    input: &R,
-    out: &mut Writes<C>,
-    region: Region,
-    width: usize,
-    height: usize,
-)
-where
-    C: Cells,
-    R: Source<Item = C::Item>,
-    requires input_fits { length (R.items input.now) ≡ width * height }
-    requires output_fits { length (C.items out.old.holder) ≡ width * height }
-    requires inside { LiesInMatrix region width height }
-    ensures transposed { IsRegionTransposed region width height (R.items input.now)
-        (C.items out.old.holder) (C.items out.new.holder) }
-    ensures put { (x y : ℕ) → region.row_start ≤ y → y < region.row_end
-        → region.col_start ≤ x → x < region.col_end
-        → slice_get (C.items out.new.holder) (x * height + y)
-        ≡ slice_get (R.items input.now) (y * width + x) }
-    ensures stay { (x y : ℕ) → y < height
-        → ((y < region.row_start) ⊎ (region.row_end ≤ y) ⊎ (x < region.col_start)
-        ⊎ (region.col_end ≤ x))
-        → slice_get (C.items out.new.holder) (x * height + y)
-        ≡ slice_get (C.items out.old.holder) (x * height + y) }
-    ensures count { out.new.count ≡ counted out.old.count (items_of region) }
-    ensures holder { C.same_holder (items_of region) out.old.holder out.new.holder }
-{
-    let matrix = Matrix::new(input, width, height);
+    let matrix = Matrix::new(SliceSource::new(input), width, height);
     let counter = Writes::resumed(&mut out.holder, out.count);
     out.count = put_region(counter, matrix, region).writes();
-}
-
-/// Writes the transpose of `region` to `cells`, and returns the number of writes, which are counted
-/// from 0.
-///
-/// The region and the preconditions are as for [`transpose_region_on`].
-pub fn transpose_region_counted<C: Cells>(
-    input: &[C::Item],
-    cells: &mut C,
-    region: Region,
-    width: usize,
-    height: usize,
-) -> u128
-    requires input_fits { length input.now ≡ width * height }
-    requires output_fits { length (C.items cells.old) ≡ width * height }
-    requires inside { LiesInMatrix region width height }
-    ensures transposed { IsRegionTransposed region width height input.now (C.items cells.old)
-        (C.items cells.new) }
-    ensures put { (x y : ℕ) → region.row_start ≤ y → y < region.row_end
-        → region.col_start ≤ x → x < region.col_end
-        → slice_get (C.items cells.new) (x * height + y) ≡ slice_get input.now (y * width + x) }
-    ensures stay { (x y : ℕ) → y < height
-        → ((y < region.row_start) ⊎ (region.row_end ≤ y) ⊎ (x < region.col_start)
-        ⊎ (region.col_end ≤ x))
-        → slice_get (C.items cells.new) (x * height + y)
-        ≡ slice_get (C.items cells.old) (x * height + y) }
-    ensures count { result ≡ items_of region }
-    ensures holder { C.same_holder result cells.old cells.new }
-{
-    transpose_source_region_counted(&SliceSource::new(input), cells, region, width, height)
-}
-
-/// Writes the transpose of a region of any source to `cells`, as [`transpose_region_counted`] does
-/// for a slice. The preconditions are the same.
-pub fn transpose_source_region_counted<R, C>(
-    input: &R,
-    cells: &mut C,
-    region: Region,
-    width: usize,
-    height: usize,
-) -> u128
-where
-    C: Cells,
-    R: Source<Item = C::Item>,
-    requires input_fits { length (R.items input.now) ≡ width * height }
-    requires output_fits { length (C.items cells.old) ≡ width * height }
-    requires inside { LiesInMatrix region width height }
-    ensures transposed { IsRegionTransposed region width height (R.items input.now)
-        (C.items cells.old) (C.items cells.new) }
-    ensures put { (x y : ℕ) → region.row_start ≤ y → y < region.row_end
-        → region.col_start ≤ x → x < region.col_end
-        → slice_get (C.items cells.new) (x * height + y)
-        ≡ slice_get (R.items input.now) (y * width + x) }
-    ensures stay { (x y : ℕ) → y < height
-        → ((y < region.row_start) ⊎ (region.row_end ≤ y) ⊎ (x < region.col_start)
-        ⊎ (region.col_end ≤ x))
-        → slice_get (C.items cells.new) (x * height + y)
-        ≡ slice_get (C.items cells.old) (x * height + y) }
-    ensures count { result ≡ items_of region }
-    ensures holder { C.same_holder result cells.old cells.new }
-{
-    let matrix = Matrix::new(input, width, height);
-    put_region(Writes::new(cells), matrix, region).writes()
 }
 
 /// Writes the transpose of `region` to `out`, as
@@ -337,29 +200,6 @@ pub fn transpose_square_on<S: Places>(
 {
     let counter = Swaps::resumed(&mut m.holder, m.count);
     m.count = transpose_square(counter, base, log_stride, log_size).swaps();
-}
-
-/// Transposes a square of `places` in place, and returns the number of swaps, which are counted
-/// from 0.
-///
-/// The square and the preconditions are as for [`transpose_square_on`].
-#[tactic(auto, using(crate::proofs::ReverseLemmas::SquareCounts::square_swaps_fit))]
-pub fn transpose_square_counted<S: Places>(
-    places: &mut S,
-    base: usize,
-    log_stride: usize,
-    log_size: usize,
-) -> u128
-    requires rows_apart { log_size ≤ log_stride }
-    requires stride_fits { log_stride < 64 }
-    requires room { let s = 2 ^ log_size in
-        base + (s - 1) * 2 ^ log_stride + (s - 1) < length (S.items places.old) }
-    ensures transposed { IsSquareTransposed base log_stride log_size (S.items places.old)
-        (S.items places.new) }
-    ensures count { let s = 2 ^ log_size in result ≡ s * (s - 1) / 2 }
-    ensures holder { S.same_holder result places.old places.new }
-{
-    transpose_square(Swaps::new(places), base, log_stride, log_size).swaps()
 }
 
 /// Splits and puts `region`, with a counter that starts at `count`. Returns the holder inside the

@@ -7,15 +7,13 @@ use crate::tests::checks::Shape;
 use p3_util::bits::checked_log_size_sum;
 use p3_util::places::{Cells, Places, SliceSource, Source, Swaps, Writes};
 use p3_util::reverse::{
-    fits_rows, reverse_chunks_on, reverse_counted, reverse_index_bits_long, reverse_index_bits_on,
-    reverse_index_bits_short, reverse_row_index_bits_on, reverse_rows_counted,
-    reverse_slice_index_bits, reverse_slice_row_index_bits,
+    fits_rows, reverse_chunks_on, reverse_index_bits_long, reverse_index_bits_on,
+    reverse_index_bits_short, reverse_row_index_bits_on, reverse_slice_index_bits,
+    reverse_slice_row_index_bits,
 };
 use p3_util::transpose::{
-    Region, fits_matrix, fits_square, transpose, transpose_counted, transpose_on,
-    transpose_region_counted, transpose_region_on, transpose_source_counted, transpose_source_on,
-    transpose_source_region_counted, transpose_source_region_on, transpose_source_split_on,
-    transpose_split_on, transpose_square_on,
+    Region, fits_matrix, fits_square, transpose, transpose_on, transpose_region_on,
+    transpose_source_on, transpose_source_split_on, transpose_split_on, transpose_square_on,
 };
 use p3_util_callers::uses::levels_of;
 use std::process::Abort;
@@ -23,18 +21,14 @@ use std::process::Abort;
 /// A call that reorders a list by exchanges.
 #[derive(Clone, Copy)]
 pub(crate) enum Call {
-    /// By index bits, on the path that the length selects, with a given counter.
+    /// By index bits, on the path that the length selects.
     Reversal,
-    /// The same with the `_counted` call.
-    Counted,
     /// The same on the short path.
     Short,
     /// The same on the long path.
     Long,
-    /// The rows of this many items by index bits, with a given counter.
+    /// The rows of this many items by index bits.
     Rows(usize),
-    /// The same with the `_counted` call.
-    CountedRows(usize),
     /// The logarithms of the number of chunks and of their size.
     Chunks(usize, usize),
     /// The base of a square, and the logarithms of its stride and its side.
@@ -44,14 +38,6 @@ pub(crate) enum Call {
 /// Makes `call`, and returns the number of swaps.
 pub(crate) fn count_swaps<S: Places>(rt: &impl Abort, places: &mut S, call: Call) -> u128 {
     match call {
-        Call::Counted => {
-            assert!(rt; fits_rows(places.len(), 1));
-            reverse_counted(places)
-        }
-        Call::CountedRows(row_width) => {
-            assert!(rt; fits_rows(places.len(), row_width));
-            reverse_rows_counted(places, row_width)
-        }
         Call::Chunks(lb_num_chunks, lb_chunk_size) => {
             let mut m = Swaps::new(places);
             let size = checked_log_size_sum(lb_num_chunks, lb_chunk_size);
@@ -123,22 +109,12 @@ pub(crate) fn transpose_slice<T: Copy>(
 /// A call that writes the transpose of a matrix or of a region.
 #[derive(Clone, Copy)]
 pub(crate) enum Put {
-    /// From a slice, with a given counter.
+    /// From a slice.
     On,
-    /// From any source, with a given counter.
+    /// From any source.
     SourceOn,
-    /// From a slice, with the `_counted` call.
-    Counted,
-    /// From any source, with the `_counted` call.
-    SourceCounted,
-    /// Of a region, with a given counter.
+    /// Of a region.
     Region(Region),
-    /// The same with the `_counted` call.
-    CountedRegion(Region),
-    /// Of a region from any source, with a given counter.
-    SourceRegion(Region),
-    /// The same with the `_counted` call.
-    CountedSourceRegion(Region),
     /// Of the whole matrix, by a split with at most this many levels.
     Split(u32),
     /// The same from any source.
@@ -156,19 +132,6 @@ pub(crate) fn count_writes<C: Cells>(
     let Shape { width, height } = shape;
     assert!(rt; fits_matrix(input.len(), cells.len(), width, height));
     match call {
-        Put::Counted => transpose_counted(input, cells, width, height),
-        Put::SourceCounted => {
-            transpose_source_counted(&SliceSource::new(input), cells, width, height)
-        }
-        Put::CountedRegion(region) => {
-            assert!(rt; region.fits(width, height));
-            transpose_region_counted(input, cells, region, width, height)
-        }
-        Put::CountedSourceRegion(region) => {
-            assert!(rt; region.fits(width, height));
-            let source = SliceSource::new(input);
-            transpose_source_region_counted(&source, cells, region, width, height)
-        }
         Put::Split(levels) | Put::SourceSplit(levels) => {
             split_on(rt, call, input, Writes::new(cells), shape).0
         }
@@ -189,11 +152,6 @@ fn put_on<C: Cells + Drop>(
         Put::Region(region) => {
             assert!(rt; region.fits(width, height));
             transpose_region_on(input, &mut out, region, width, height);
-        }
-        Put::SourceRegion(region) => {
-            assert!(rt; region.fits(width, height));
-            let source = SliceSource::new(input);
-            transpose_source_region_on(&source, &mut out, region, width, height);
         }
         Put::SourceOn => transpose_source_on(&SliceSource::new(input), &mut out, width, height),
         _ => transpose_on(input, &mut out, width, height),

@@ -48,12 +48,7 @@ fn worked_examples(rt: HostRuntime) {
         for call in [
             Put::On,
             Put::SourceOn,
-            Put::Counted,
-            Put::SourceCounted,
             Put::Region(whole(shape)),
-            Put::CountedRegion(whole(shape)),
-            Put::SourceRegion(whole(shape)),
-            Put::CountedSourceRegion(whole(shape)),
             Put::Split(0),
             Put::SourceSplit(0),
         ] {
@@ -150,16 +145,9 @@ fn blocks_and_regions(rt: HostRuntime) {
         col_end: 4,
     };
     let wanted = [99u64, 99, 99, 99, 99, 99, 99, 6, 10, 99, 7, 11];
-    for call in [
-        Put::Region(region),
-        Put::CountedRegion(region),
-        Put::SourceRegion(region),
-        Put::CountedSourceRegion(region),
-    ] {
-        let (output, writes) = transposed(&rt, rt.alloc(), call, &input, shape);
-        equal(&rt, &writes, &4);
-        equal(&rt, &output.as_slice(), &wanted.as_slice());
-    }
+    let (output, writes) = transposed(&rt, rt.alloc(), Put::Region(region), &input, shape);
+    equal(&rt, &writes, &4);
+    equal(&rt, &output.as_slice(), &wanted.as_slice());
     let empty = Region {
         row_end: 1,
         ..region

@@ -45,7 +45,7 @@ fn moves_long_lists() {
 #[cfg(target_pointer_width = "64")]
 fn calls_of_the_package() {
     use p3_util::proved::{
-        kernels::places::SlicePlaces, kernels::reverse::reverse_counted, parts, reverse_slice_row_index_bits,
+        kernels::places::{SlicePlaces, Swaps}, kernels::reverse::reverse_index_bits_on, parts, reverse_slice_row_index_bits,
     };
 
     let mut rows = [0, 1, 10, 11, 20, 21, 30, 31];
@@ -53,7 +53,9 @@ fn calls_of_the_package() {
     assert_eq!(rows, [0, 1, 20, 21, 10, 11, 30, 31]);
     parts::row_reversal(&mut rows, 2, 3).for_each(|part| part.run());
     assert_eq!(rows, [0, 1, 10, 11, 20, 21, 30, 31]);
-    assert_eq!(reverse_counted(&mut SlicePlaces::new(&mut rows)), 2);
+    let mut swaps = Swaps::new(SlicePlaces::new(&mut rows));
+    reverse_index_bits_on(&mut swaps);
+    assert_eq!(swaps.swaps(), 2);
     let mut list: Vec<u32> = (0..100 << 13).collect();
     reverse_slice_row_index_bits(&mut list, 100);
     let is_reversed = |(row, items): (u32, &[u32])| items[0] == (row.reverse_bits() >> 19) * 100 && items.is_sorted();

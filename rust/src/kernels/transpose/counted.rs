@@ -1,8 +1,5 @@
 // rust/erase writes this file from crates/p3_util_kernels/src/transpose/counted.rt. Make changes there.
-//! Transposes over any holder, and over counters.
-//!
-//! A call whose name ends in `_on` adds to a counter that its caller made. One whose name ends in
-//! `_counted` counts from 0, and returns the number.
+//! Transposes over any holder, by a counter that the caller made, to whose count they add.
 
 #[cfg(target_pointer_width = "32")]
 use crate::width::Index as usize;
@@ -13,34 +10,6 @@ use crate::kernels::transpose::split::put_split;
 use crate::kernels::transpose::square::transpose_square;
 use crate::kernels::transpose::strips::Strips;
 use crate::kernels::transpose::{put_region, transpose_by_shape};
-
-/// Writes the transpose of `input`, a matrix of `height` rows of `width` items, to `cells`, and
-/// returns the number of writes.
-///
-/// The item at `y * width + x` of `input` is written to cell `x * height + y`. The writes are
-/// counted from 0, and there are exactly `width * height`. Both lengths must be `width * height`,
-/// which [`fits_matrix`](crate::kernels::transpose::fits_matrix) checks.
-pub fn transpose_counted<C: Cells>(
-    input: &[C::Item],
-    cells: &mut C,
-    width: usize,
-    height: usize,
-) -> u128 {
-    transpose_source_counted(&SliceSource::new(input), cells, width, height)
-}
-
-/// Writes the transpose of any source to `cells`, as [`transpose_counted`] does for a slice.
-///
-/// Both lengths must be `width * height`, which [`fits_matrix`](crate::kernels::transpose::fits_matrix)
-/// checks.
-pub fn transpose_source_counted<R, C>(input: &R, cells: &mut C, width: usize, height: usize) -> u128
-where
-    C: Cells,
-    R: Source<Item = C::Item>,
-{
-    let matrix = Matrix::new(input, width, height);
-    transpose_by_shape(Writes::new(cells), matrix).writes()
-}
 
 /// Writes the transpose of `input` to `out`, as [`transpose`](crate::kernels::transpose::transpose) does, in
 /// exactly `width * height` writes.
@@ -81,56 +50,9 @@ pub fn transpose_region_on<C: Cells>(
     width: usize,
     height: usize,
 ) {
-    transpose_source_region_on(&SliceSource::new(input), out, region, width, height);
-}
-
-/// Writes the transpose of a region of any source to `out`, as [`transpose_region_on`] does for a
-/// slice. The preconditions are the same.
-pub fn transpose_source_region_on<R, C>(
-    input: &R,
-    out: &mut Writes<C>,
-    region: Region,
-    width: usize,
-    height: usize,
-)
-where
-    C: Cells,
-    R: Source<Item = C::Item>,
-{
-    let matrix = Matrix::new(input, width, height);
+    let matrix = Matrix::new(SliceSource::new(input), width, height);
     let counter = Writes::resumed(&mut out.holder, out.count);
     out.count = put_region(counter, matrix, region).writes();
-}
-
-/// Writes the transpose of `region` to `cells`, and returns the number of writes, which are counted
-/// from 0.
-///
-/// The region and the preconditions are as for [`transpose_region_on`].
-pub fn transpose_region_counted<C: Cells>(
-    input: &[C::Item],
-    cells: &mut C,
-    region: Region,
-    width: usize,
-    height: usize,
-) -> u128 {
-    transpose_source_region_counted(&SliceSource::new(input), cells, region, width, height)
-}
-
-/// Writes the transpose of a region of any source to `cells`, as [`transpose_region_counted`] does
-/// for a slice. The preconditions are the same.
-pub fn transpose_source_region_counted<R, C>(
-    input: &R,
-    cells: &mut C,
-    region: Region,
-    width: usize,
-    height: usize,
-) -> u128
-where
-    C: Cells,
-    R: Source<Item = C::Item>,
-{
-    let matrix = Matrix::new(input, width, height);
-    put_region(Writes::new(cells), matrix, region).writes()
 }
 
 /// Writes the transpose of `region` to `out`, as
@@ -211,19 +133,6 @@ pub fn transpose_square_on<S: Places>(
 ) {
     let counter = Swaps::resumed(&mut m.holder, m.count);
     m.count = transpose_square(counter, base, log_stride, log_size).swaps();
-}
-
-/// Transposes a square of `places` in place, and returns the number of swaps, which are counted
-/// from 0.
-///
-/// The square and the preconditions are as for [`transpose_square_on`].
-pub fn transpose_square_counted<S: Places>(
-    places: &mut S,
-    base: usize,
-    log_stride: usize,
-    log_size: usize,
-) -> u128 {
-    transpose_square(Swaps::new(places), base, log_stride, log_size).swaps()
 }
 
 /// Splits and puts `region`, with a counter that starts at `count`. Returns the holder inside the
