@@ -13,7 +13,8 @@
         }                    \
     } while (0)
 
-enum { MOST_ITEMS = 1 << 15, LARGEST = 256, ROOM = 1 + MOST_ITEMS * LARGEST };
+/* The largest lists are those of check_split, and those of 2^15 items of 64 bytes. */
+enum { ROOM = 1 + 1025 * 1024 * 4 };
 
 static unsigned char before[ROOM], after[ROOM], wanted[ROOM];
 
@@ -165,15 +166,8 @@ int main(void) {
     CHECK_SIZE(12);
     CHECK_SIZE(16);
     CHECK_SIZE(20);
-    CHECK_SIZE(24);
     CHECK_SIZE(32);
-    CHECK_SIZE(40);
-    CHECK_SIZE(48);
     CHECK_SIZE(64);
-    CHECK_SIZE(96);
-    CHECK_SIZE(128);
-    CHECK_SIZE(160);
-    CHECK_SIZE(256);
     CHECK_CALL(check_split, 1, p3_util_transpose_1);
     CHECK_CALL(check_split, 4, p3_util_transpose_4);
     return 0;

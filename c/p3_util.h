@@ -1,6 +1,6 @@
 /*
  * Proved bit reversal and transposes of lists, from the static library libp3_util_c.a. No other file has to be linked.
- * The library calls only memcpy and memmove, allocates nothing and keeps no state, so threads may call it at the same
+ * The library calls at most memcpy and memmove, allocates nothing and keeps no state, so threads may call it at the same
  * time on different lists. Its code is for x86-64-v2.
  *
  * The number at the end of a name is the size of an item in bytes. Items are moved as a whole, and their contents are
@@ -47,15 +47,8 @@ P3_UTIL_CHECK bool p3_util_reverse_8(void *vals, size_t len);
 P3_UTIL_CHECK bool p3_util_reverse_12(void *vals, size_t len);
 P3_UTIL_CHECK bool p3_util_reverse_16(void *vals, size_t len);
 P3_UTIL_CHECK bool p3_util_reverse_20(void *vals, size_t len);
-P3_UTIL_CHECK bool p3_util_reverse_24(void *vals, size_t len);
 P3_UTIL_CHECK bool p3_util_reverse_32(void *vals, size_t len);
-P3_UTIL_CHECK bool p3_util_reverse_40(void *vals, size_t len);
-P3_UTIL_CHECK bool p3_util_reverse_48(void *vals, size_t len);
 P3_UTIL_CHECK bool p3_util_reverse_64(void *vals, size_t len);
-P3_UTIL_CHECK bool p3_util_reverse_96(void *vals, size_t len);
-P3_UTIL_CHECK bool p3_util_reverse_128(void *vals, size_t len);
-P3_UTIL_CHECK bool p3_util_reverse_160(void *vals, size_t len);
-P3_UTIL_CHECK bool p3_util_reverse_256(void *vals, size_t len);
 
 /*
  * Reverses the order of rows of row_width items by index bits, and moves each row as one item. The condition is that
@@ -70,15 +63,8 @@ P3_UTIL_CHECK bool p3_util_reverse_rows_8(void *vals, size_t len, size_t row_wid
 P3_UTIL_CHECK bool p3_util_reverse_rows_12(void *vals, size_t len, size_t row_width);
 P3_UTIL_CHECK bool p3_util_reverse_rows_16(void *vals, size_t len, size_t row_width);
 P3_UTIL_CHECK bool p3_util_reverse_rows_20(void *vals, size_t len, size_t row_width);
-P3_UTIL_CHECK bool p3_util_reverse_rows_24(void *vals, size_t len, size_t row_width);
 P3_UTIL_CHECK bool p3_util_reverse_rows_32(void *vals, size_t len, size_t row_width);
-P3_UTIL_CHECK bool p3_util_reverse_rows_40(void *vals, size_t len, size_t row_width);
-P3_UTIL_CHECK bool p3_util_reverse_rows_48(void *vals, size_t len, size_t row_width);
 P3_UTIL_CHECK bool p3_util_reverse_rows_64(void *vals, size_t len, size_t row_width);
-P3_UTIL_CHECK bool p3_util_reverse_rows_96(void *vals, size_t len, size_t row_width);
-P3_UTIL_CHECK bool p3_util_reverse_rows_128(void *vals, size_t len, size_t row_width);
-P3_UTIL_CHECK bool p3_util_reverse_rows_160(void *vals, size_t len, size_t row_width);
-P3_UTIL_CHECK bool p3_util_reverse_rows_256(void *vals, size_t len, size_t row_width);
 
 /*
  * Writes to output the transpose of input, a matrix of height rows of width items, stored row after row: item
@@ -99,23 +85,9 @@ P3_UTIL_CHECK bool p3_util_transpose_16(const void *input, size_t input_len, voi
     size_t width, size_t height);
 P3_UTIL_CHECK bool p3_util_transpose_20(const void *input, size_t input_len, void *output, size_t output_len,
     size_t width, size_t height);
-P3_UTIL_CHECK bool p3_util_transpose_24(const void *input, size_t input_len, void *output, size_t output_len,
-    size_t width, size_t height);
 P3_UTIL_CHECK bool p3_util_transpose_32(const void *input, size_t input_len, void *output, size_t output_len,
     size_t width, size_t height);
-P3_UTIL_CHECK bool p3_util_transpose_40(const void *input, size_t input_len, void *output, size_t output_len,
-    size_t width, size_t height);
-P3_UTIL_CHECK bool p3_util_transpose_48(const void *input, size_t input_len, void *output, size_t output_len,
-    size_t width, size_t height);
 P3_UTIL_CHECK bool p3_util_transpose_64(const void *input, size_t input_len, void *output, size_t output_len,
-    size_t width, size_t height);
-P3_UTIL_CHECK bool p3_util_transpose_96(const void *input, size_t input_len, void *output, size_t output_len,
-    size_t width, size_t height);
-P3_UTIL_CHECK bool p3_util_transpose_128(const void *input, size_t input_len, void *output, size_t output_len,
-    size_t width, size_t height);
-P3_UTIL_CHECK bool p3_util_transpose_160(const void *input, size_t input_len, void *output, size_t output_len,
-    size_t width, size_t height);
-P3_UTIL_CHECK bool p3_util_transpose_256(const void *input, size_t input_len, void *output, size_t output_len,
     size_t width, size_t height);
 
 /* Returns the least e with n <= 2^e. For n = 0 and n = 1 it returns 0. */
@@ -147,10 +119,10 @@ P3_UTIL_CHECK bool p3_util_reverse_bits_len(size_t x, size_t bit_len, size_t *re
  * Returns the number of the interface, which is also in the function's name. Code that includes this header refers to
  * the function, so it does not link with a library of another version.
  */
-size_t p3_util_c_interface_2_library_and_bindings_are_of_one_version(void);
+size_t p3_util_c_interface_3_library_and_bindings_are_of_one_version(void);
 #ifdef P3_UTIL_KEEP
 P3_UTIL_KEEP static size_t (*const p3_util_c_interface)(void) =
-    p3_util_c_interface_2_library_and_bindings_are_of_one_version;
+    p3_util_c_interface_3_library_and_bindings_are_of_one_version;
 #endif
 
 #ifdef __cplusplus

@@ -15,7 +15,7 @@ from rattle_source import declarations, read
 
 HEADER = "c/p3_util.h"
 SOURCES = sorted(glob.glob("crates/p3_util_c/src/**/*.rt", recursive=True))
-SIZES = [1, 2, 4, 8, 12, 16, 20, 24, 32, 40, 48, 64, 96, 128, 160, 256]
+SIZES = [1, 2, 4, 8, 12, 16, 20, 32, 64]
 EXPORT = re.compile(r'#\[unsafe\(no_mangle\)\]\npub extern "C" fn \w+_(\d+)\((?:.*\n)*?\}\n\n')
 PROTOTYPES = re.compile(r"(?:^\w[\w *]*\bp3_util_\w+\([^()]*\);\n)+", re.M)
 # The prototype of a new export is put before these lines. Its comment is written by hand.

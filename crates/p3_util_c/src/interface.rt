@@ -6,8 +6,8 @@ ghost use Rattle.std.specs.Prelude.{◌≡◌};
 
 /// Returns the number of the interface, which is in the name.
 #[unsafe(no_mangle)]
-pub extern "C" fn p3_util_c_interface_2_library_and_bindings_are_of_one_version() -> usize
-    ensures { result ≡ 2 }
+pub extern "C" fn p3_util_c_interface_3_library_and_bindings_are_of_one_version() -> usize
+    ensures { result ≡ 3 }
 {
-    2
+    3
 }

@@ -61,13 +61,6 @@ pub extern "C" fn p3_util_reverse_20(vals: &mut [[[u8; 4]; 5]]) -> bool
 }
 
 #[unsafe(no_mangle)]
-pub extern "C" fn p3_util_reverse_24(vals: &mut [[[u8; 8]; 3]]) -> bool
-    ensures { IsTriedReversal result vals.old vals.new }
-{
-    reverse_where_it_fits(vals)
-}
-
-#[unsafe(no_mangle)]
 pub extern "C" fn p3_util_reverse_32(vals: &mut [[[u8; 8]; 4]]) -> bool
     ensures { IsTriedReversal result vals.old vals.new }
 {
@@ -75,49 +68,7 @@ pub extern "C" fn p3_util_reverse_32(vals: &mut [[[u8; 8]; 4]]) -> bool
 }
 
 #[unsafe(no_mangle)]
-pub extern "C" fn p3_util_reverse_40(vals: &mut [[[u8; 8]; 5]]) -> bool
-    ensures { IsTriedReversal result vals.old vals.new }
-{
-    reverse_where_it_fits(vals)
-}
-
-#[unsafe(no_mangle)]
-pub extern "C" fn p3_util_reverse_48(vals: &mut [[[u8; 8]; 6]]) -> bool
-    ensures { IsTriedReversal result vals.old vals.new }
-{
-    reverse_where_it_fits(vals)
-}
-
-#[unsafe(no_mangle)]
 pub extern "C" fn p3_util_reverse_64(vals: &mut [[[u8; 8]; 8]]) -> bool
-    ensures { IsTriedReversal result vals.old vals.new }
-{
-    reverse_where_it_fits(vals)
-}
-
-#[unsafe(no_mangle)]
-pub extern "C" fn p3_util_reverse_96(vals: &mut [[[u8; 8]; 12]]) -> bool
-    ensures { IsTriedReversal result vals.old vals.new }
-{
-    reverse_where_it_fits(vals)
-}
-
-#[unsafe(no_mangle)]
-pub extern "C" fn p3_util_reverse_128(vals: &mut [[[u8; 8]; 16]]) -> bool
-    ensures { IsTriedReversal result vals.old vals.new }
-{
-    reverse_where_it_fits(vals)
-}
-
-#[unsafe(no_mangle)]
-pub extern "C" fn p3_util_reverse_160(vals: &mut [[[u8; 8]; 20]]) -> bool
-    ensures { IsTriedReversal result vals.old vals.new }
-{
-    reverse_where_it_fits(vals)
-}
-
-#[unsafe(no_mangle)]
-pub extern "C" fn p3_util_reverse_256(vals: &mut [[[u8; 8]; 32]]) -> bool
     ensures { IsTriedReversal result vals.old vals.new }
 {
     reverse_where_it_fits(vals)

@@ -61,13 +61,6 @@ pub extern "C" fn p3_util_reverse_rows_20(vals: &mut [[[u8; 4]; 5]], row_width: 
 }
 
 #[unsafe(no_mangle)]
-pub extern "C" fn p3_util_reverse_rows_24(vals: &mut [[[u8; 8]; 3]], row_width: usize) -> bool
-    ensures { IsTriedRowReversal result row_width vals.old vals.new }
-{
-    reverse_rows_where_they_fit(vals, row_width)
-}
-
-#[unsafe(no_mangle)]
 pub extern "C" fn p3_util_reverse_rows_32(vals: &mut [[[u8; 8]; 4]], row_width: usize) -> bool
     ensures { IsTriedRowReversal result row_width vals.old vals.new }
 {
@@ -75,49 +68,7 @@ pub extern "C" fn p3_util_reverse_rows_32(vals: &mut [[[u8; 8]; 4]], row_width: 
 }
 
 #[unsafe(no_mangle)]
-pub extern "C" fn p3_util_reverse_rows_40(vals: &mut [[[u8; 8]; 5]], row_width: usize) -> bool
-    ensures { IsTriedRowReversal result row_width vals.old vals.new }
-{
-    reverse_rows_where_they_fit(vals, row_width)
-}
-
-#[unsafe(no_mangle)]
-pub extern "C" fn p3_util_reverse_rows_48(vals: &mut [[[u8; 8]; 6]], row_width: usize) -> bool
-    ensures { IsTriedRowReversal result row_width vals.old vals.new }
-{
-    reverse_rows_where_they_fit(vals, row_width)
-}
-
-#[unsafe(no_mangle)]
 pub extern "C" fn p3_util_reverse_rows_64(vals: &mut [[[u8; 8]; 8]], row_width: usize) -> bool
-    ensures { IsTriedRowReversal result row_width vals.old vals.new }
-{
-    reverse_rows_where_they_fit(vals, row_width)
-}
-
-#[unsafe(no_mangle)]
-pub extern "C" fn p3_util_reverse_rows_96(vals: &mut [[[u8; 8]; 12]], row_width: usize) -> bool
-    ensures { IsTriedRowReversal result row_width vals.old vals.new }
-{
-    reverse_rows_where_they_fit(vals, row_width)
-}
-
-#[unsafe(no_mangle)]
-pub extern "C" fn p3_util_reverse_rows_128(vals: &mut [[[u8; 8]; 16]], row_width: usize) -> bool
-    ensures { IsTriedRowReversal result row_width vals.old vals.new }
-{
-    reverse_rows_where_they_fit(vals, row_width)
-}
-
-#[unsafe(no_mangle)]
-pub extern "C" fn p3_util_reverse_rows_160(vals: &mut [[[u8; 8]; 20]], row_width: usize) -> bool
-    ensures { IsTriedRowReversal result row_width vals.old vals.new }
-{
-    reverse_rows_where_they_fit(vals, row_width)
-}
-
-#[unsafe(no_mangle)]
-pub extern "C" fn p3_util_reverse_rows_256(vals: &mut [[[u8; 8]; 32]], row_width: usize) -> bool
     ensures { IsTriedRowReversal result row_width vals.old vals.new }
 {
     reverse_rows_where_they_fit(vals, row_width)

@@ -96,18 +96,6 @@ pub extern "C" fn p3_util_transpose_20(
 }
 
 #[unsafe(no_mangle)]
-pub extern "C" fn p3_util_transpose_24(
-    input: &[[[u8; 8]; 3]],
-    output: &mut [[[u8; 8]; 3]],
-    width: usize,
-    height: usize,
-) -> bool
-    ensures { IsTriedTranspose result width height input.now output.old output.new }
-{
-    transpose_where_it_fits(input, output, width, height)
-}
-
-#[unsafe(no_mangle)]
 pub extern "C" fn p3_util_transpose_32(
     input: &[[[u8; 8]; 4]],
     output: &mut [[[u8; 8]; 4]],
@@ -120,81 +108,9 @@ pub extern "C" fn p3_util_transpose_32(
 }
 
 #[unsafe(no_mangle)]
-pub extern "C" fn p3_util_transpose_40(
-    input: &[[[u8; 8]; 5]],
-    output: &mut [[[u8; 8]; 5]],
-    width: usize,
-    height: usize,
-) -> bool
-    ensures { IsTriedTranspose result width height input.now output.old output.new }
-{
-    transpose_where_it_fits(input, output, width, height)
-}
-
-#[unsafe(no_mangle)]
-pub extern "C" fn p3_util_transpose_48(
-    input: &[[[u8; 8]; 6]],
-    output: &mut [[[u8; 8]; 6]],
-    width: usize,
-    height: usize,
-) -> bool
-    ensures { IsTriedTranspose result width height input.now output.old output.new }
-{
-    transpose_where_it_fits(input, output, width, height)
-}
-
-#[unsafe(no_mangle)]
 pub extern "C" fn p3_util_transpose_64(
     input: &[[[u8; 8]; 8]],
     output: &mut [[[u8; 8]; 8]],
-    width: usize,
-    height: usize,
-) -> bool
-    ensures { IsTriedTranspose result width height input.now output.old output.new }
-{
-    transpose_where_it_fits(input, output, width, height)
-}
-
-#[unsafe(no_mangle)]
-pub extern "C" fn p3_util_transpose_96(
-    input: &[[[u8; 8]; 12]],
-    output: &mut [[[u8; 8]; 12]],
-    width: usize,
-    height: usize,
-) -> bool
-    ensures { IsTriedTranspose result width height input.now output.old output.new }
-{
-    transpose_where_it_fits(input, output, width, height)
-}
-
-#[unsafe(no_mangle)]
-pub extern "C" fn p3_util_transpose_128(
-    input: &[[[u8; 8]; 16]],
-    output: &mut [[[u8; 8]; 16]],
-    width: usize,
-    height: usize,
-) -> bool
-    ensures { IsTriedTranspose result width height input.now output.old output.new }
-{
-    transpose_where_it_fits(input, output, width, height)
-}
-
-#[unsafe(no_mangle)]
-pub extern "C" fn p3_util_transpose_160(
-    input: &[[[u8; 8]; 20]],
-    output: &mut [[[u8; 8]; 20]],
-    width: usize,
-    height: usize,
-) -> bool
-    ensures { IsTriedTranspose result width height input.now output.old output.new }
-{
-    transpose_where_it_fits(input, output, width, height)
-}
-
-#[unsafe(no_mangle)]
-pub extern "C" fn p3_util_transpose_256(
-    input: &[[[u8; 8]; 32]],
-    output: &mut [[[u8; 8]; 32]],
     width: usize,
     height: usize,
 ) -> bool
