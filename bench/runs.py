@@ -20,13 +20,11 @@ WIDE = """1024x2048 2048x1024 2048x2048 4096x512 4096x4096 8192x256 8192x1024 16
 # What is measured on several threads. The rows have 8, 64 and 1024 items of 4 bytes, in lists of 2^19 and of 2^23 items.
 SHAPES_ON_THREADS = """256x256 512x512 64x4096 4096x64 1000x300 1024x1024 1023x1001 64x16384 16384x64 2048x1024 1024x2048
     300x4096 2048x2048 4096x1024 64x65536 65536x64 4096x4096 256x65536 16x1048576 1048576x16 3000x2000 100x65536""".split()
-SHAPES_ON_AARCH64 = "12x12 16x16 37x50 64x64 300x500 512x512 64x1024 1024x64 1024x1024 1025x1024".split()
 ROWS_ON_THREADS = "32x65536 32x1048576 256x8192 256x131072 4096x512 4096x8192".split()
 # What is measured unless an option says otherwise, in general and by kind of build.
 DEFAULTS = {
     "": {"calls": CALLS, "items": ["1", "4", "8", "32"], "sizes": range(2, 23), "rows": ROWS, "shapes": SHAPES + WIDE},
     "--parallel": {"calls": ["reverse", "transpose"], "sizes": range(14, 25), "rows": ROWS_ON_THREADS, "shapes": SHAPES_ON_THREADS},
-    "--aarch64": {"calls": ["reverse", "transpose"], "sizes": [12, 16], "shapes": SHAPES_ON_AARCH64},
 }
 ALL = 2 ** 64
 # The calls that are summarized together: the call, how many items or rows it moves, and the shapes. A call may be in
@@ -121,12 +119,12 @@ def rows(words):
     """Builds the benchmark as these options say, and measures."""
     path, *own = output(HERE / "build", *words).splitlines()
     asked = options(own, next((kind for kind in DEFAULTS if kind in words), ""))
-    if asked.parts and {"--parallel", "--library"} & set(words):
+    if asked.parts and "--parallel" in words:
         raise SystemExit("--parts is for the package alone")
     names = calls(asked)
     if not names:
         raise SystemExit("these options leave no call to measure")
-    by = by_emulator if "--aarch64" in words else by_valgrind if "--instructions" in words else by_clock
+    by = by_valgrind if "--instructions" in words else by_clock
     found = {}
     for line, took in by(path, asked.parts, names, asked.runs):
         name, units, contender = line.split("\t")[:3]
@@ -181,15 +179,3 @@ def by_valgrind(path, parts, names, _):
                          "--dump-after=bench_counted", "--combine-dumps=yes", path, "count", 1, parts, *names)
         totals = [float(line.split()[1]) for line in pathlib.Path(folder, "out").read_text().splitlines() if line.startswith("totals: ")]
     return zip((line for line in printed.splitlines() if line != "counted"), totals)
-
-
-def by_emulator(path, parts, names, _):
-    """The number of a call is the count of eleven calls minus the count of one, divided by ten."""
-    with tempfile.TemporaryDirectory() as folder:
-        output("cc", "-O2", "-shared", "-fPIC", "-o", f"{folder}/plugin.so", HERE / "qemu_plugin.c")
-        printed = output("qemu-aarch64", "-plugin", f"{folder}/plugin.so", "-d", "plugin", "-D", f"{folder}/counts", path, "count", "1,11", parts, *names)
-        executed = [int(line) for line in pathlib.Path(folder, "counts").read_text().splitlines()]
-    lines = printed.splitlines()
-    for at in range(0, len(lines), 3):
-        start, one, eleven = executed[at:at + 3]
-        yield lines[at], (eleven - one - (one - start)) / 10

@@ -3,8 +3,6 @@
 use std::hint::black_box;
 
 use crate::cases::{Case, Work};
-#[cfg(library)]
-use crate::library::{reverse, reverse_rows, transpose};
 use crate::measure::{Contender, Runner, Task};
 #[cfg(parallel)]
 use overlay::{
@@ -26,7 +24,6 @@ macro_rules! sizes {
 #[cfg(few)]
 sizes! { 1 u8, 4 u32, 8 u64, 16 [u64; 2], 32 [u64; 4], }
 
-// The library has no items of 3 bytes.
 #[cfg(not(few))]
 sizes! {
     1 u8, 2 u16, 3 [u8; 3], 4 u32, 8 u64, 12 [u32; 3], 16 [u64; 2], 20 [u32; 5], 24 [u64; 3], 32 [u64; 4], 40 [u64; 5], 48 [u64; 6],
@@ -126,7 +123,7 @@ impl<T: Item> Lists<T> {
         // The package's calls are here once. If there were two arms for them, the compiler would merge these, and would not
         // inline short calls any more.
         match contender {
-            #[cfg(any(library, parallel))]
+            #[cfg(parallel)]
             Contender::Proved => self.repeat(
                 times,
                 |to, ()| reverse(to),

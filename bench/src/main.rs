@@ -2,7 +2,7 @@
 //! same bytes. Its arguments are what `runs.py` makes of the options of `bench/run`:
 //!
 //! - `time RUNS` or `count CALLS`: the least number of runs of each call whose time is taken, or how many calls are made
-//!   while another program counts the instructions, such as `1,11` for one and then eleven
+//!   while another program counts the instructions
 //! - the number of parts of each call, or 0 for whole calls
 //! - the calls: `words`, `iterators`, or calls on slices, such as `transpose 4 300x60`
 //!
@@ -13,8 +13,6 @@
 mod cases;
 mod items;
 mod iterators;
-#[cfg(library)]
-mod library;
 mod measure;
 mod timed;
 mod timing;

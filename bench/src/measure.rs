@@ -19,7 +19,7 @@ pub trait Task {
 /// Who makes a call.
 #[derive(Clone, Copy, Debug, PartialEq, Eq)]
 pub enum Contender {
-    /// The package, the overlay on all threads, or the static library.
+    /// The package, or the overlay on all threads.
     Proved,
     /// `p3-util` 0.8.0.
     Original,
@@ -37,8 +37,7 @@ pub type Runner = Box<dyn FnMut(usize, u32)>;
 pub enum Mode {
     /// Takes the time of at least so many runs.
     Time(usize),
-    /// Lets each contender do its task so many times while another program counts: callgrind, or the emulator's plugin. The
-    /// plugin counts from line to line.
+    /// Lets each contender do its task so many times while callgrind counts.
     Count(Vec<usize>),
 }
 
