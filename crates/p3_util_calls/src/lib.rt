@@ -7,4 +7,3 @@ pub(crate) mod calls;
 pub(crate) mod choice;
 mod laws;
 pub(crate) mod part;
-mod witness;

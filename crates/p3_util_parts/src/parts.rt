@@ -25,7 +25,6 @@ pub mod lists;
 pub mod numbers;
 mod reversal;
 mod transpose;
-mod witness;
 
 #[doc(hidden)]
 pub use asked::{one_part_items, ranges_if_cut};

@@ -25,9 +25,6 @@
 //! [`exchange_tiles`] and [`turn_tile`] leave the list that the methods of these names in
 //! [`places`](p3_util_kernels::places) leave, and [`put_by_squares`] leaves that of `Cells::put_block`. A holder's own methods
 //! may call them.
-//!
-//! The module `witness`, which only the Rattle sources have, is an example for whoever writes a holder: a
-//! register, and lists that meet [`Runs`].
 
 ghost use Rattle.std.specs.Prelude.{◌≡◌, ℕ, ◌+◌, ◌-◌, ◌*◌, ◌/◌, ◌%◌, ◌^◌, ◌<◌, ◌≤◌, ◌⊎◌, List, [], ◌∷◌, ◌++◌, length, refl, slice_get, slice_index};
 ghost use Rattle.std.proofs.Common.{arith, length-append};
@@ -38,7 +35,6 @@ ghost use Rattle.p3_util_kernels.specs.Exchanged.{AreTiles, IsTile, TileTurned, 
 pub(crate) mod blocks;
 pub(crate) mod line_blocks;
 pub(crate) mod tiles;
-mod witness;
 
 use p3_util_kernels::places::Block;
 

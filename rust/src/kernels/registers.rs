@@ -26,9 +26,6 @@
 //! [`exchange_tiles`] and [`turn_tile`] leave the list that the methods of these names in
 //! [`places`](crate::kernels::places) leave, and [`put_by_squares`] leaves that of `Cells::put_block`. A holder's own methods
 //! may call them.
-//!
-//! The module `witness`, which only the Rattle sources have, is an example for whoever writes a holder: a
-//! register, and lists that meet [`Runs`].
 
 pub(crate) mod blocks;
 pub(crate) mod line_blocks;

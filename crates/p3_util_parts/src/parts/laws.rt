@@ -11,10 +11,6 @@
 //! What is left to review is that the steps of a part do not depend on the items of the list, so
 //! that a part makes the same steps on every list.
 //!
-//! **One thread.** Nothing is left to review if all parts are made one after the other, in the order
-//! of their numbers. [`put_all_parts`] and [`exchange_all_parts`] do so, and it is proved for every
-//! holder that this is the call.
-//!
 //! **From "n steps exist" to "these steps were made".** `SwapsLead n old new` says that some n swaps
 //! lead from `old` to `new`. Why are these the swaps that a part makes, and why are there no others?
 //! The contract of a kernel holds for every holder and every `same_holder` that meets the laws of
@@ -34,15 +30,13 @@ ghost use Rattle.p3_util_kernels.proofs.LawsLemmas.Steps.{more_puts, no_puts, on
 ghost use Rattle.p3_util_kernels.specs.Least.{SwapsLead};
 ghost use Rattle.p3_util_kernels.proofs.LawsLemmas.Steps.{more_swaps, no_swaps, one_swap};
 ghost use Rattle.p3_util_parts.specs.Parts.{parts_in, start_of};
-ghost use Rattle.p3_util_parts.specs.Plans.{IsPartMade, IsReversalPlan, parts_of, width_of};
+ghost use Rattle.p3_util_parts.specs.Plans.{IsReversalPlan, parts_of, width_of};
 ghost use Rattle.p3_util_kernels.specs.Reversal.{IsRowReversal};
 ghost use Rattle.p3_util_kernels.specs.SwapCounts.{row_swaps};
 ghost use Rattle.p3_util_kernels.specs.Transpose.{IsTranspose};
 
-use crate::parts::numbers::Plan;
 use crate::parts::{ReversalPlan, TransposePlan};
-use p3_util_kernels::kernel::{Matrix, PutRegion, RowDigits, reverse_rows};
-use p3_util_kernels::places::{Cells, Places, Source};
+use p3_util_kernels::places::{Cells, Places};
 
 /// A holder whose `same_holder n a b` says that some n puts turn the items of `a` into those of
 /// `b`.
@@ -102,27 +96,6 @@ impl<S: Places> Places for ExchangeSteps<S> {
         (S.items b.places) (S.items c.places) };
 }
 
-/// Each part of a plan for a transpose has steps, in any order: some puts that put its region, one
-/// for each item of the region.
-pub(crate) fn puts_of_part<C: Cells, R: Source<Item = C::Item> + Copy, O: PutRegion>(
-    out: C,
-    source: R,
-    plan: TransposePlan,
-    number: usize,
-    order: O,
-) -> C
-    requires below { number < parts_in plan.cut.len plan.cut.part_len }
-    requires input_fits { length (R.items source) ≡ plan.width * plan.height }
-    requires output_fits { length (C.items out) ≡ plan.width * plan.height }
-    ensures { (steps : List (ℕ × C.Item)) × (C.items result ≡ after_puts (C.items out) steps)
-        × IsPutAlone plan number (R.items source) (C.items out) steps }
-{
-    let matrix = Matrix::new(source, plan.width, plan.height);
-    order
-        .put(PutSteps { cells: out }, matrix, plan.region(number))
-        .cells
-}
-
 /// The law for a transpose. Each part puts numbers from the list 0, 1, 2 and so on into a list that
 /// has none of these numbers. Its puts are then at the places of its region, one at each, and two
 /// parts have no place in common. Take any interleaving of the puts of all parts, and let each put
@@ -150,31 +123,6 @@ pub(crate) fn transpose_in_parts<T>(plan: TransposePlan)
         × (length all ≡ plan.width * plan.height) }
 {}
 
-/// Makes part `number` of a reversal: the whole call, or a patch.
-fn exchange_part<M: Places>(m: M, plan: ReversalPlan, number: usize) -> M
-    requires below { number < parts_of plan }
-    requires plan { IsReversalPlan (length (M.items m)) plan }
-    requires len_fits { length (M.items m) < 2 ^ 64 }
-    ensures { IsPartMade plan number (M.items m) (M.items result) (λ n. M.same_holder n m result) }
-{
-    match plan {
-        ReversalPlan::Whole(len, width) => reverse_rows(m, RowDigits::of(len, width)),
-        ReversalPlan::Patches(pairs) => pairs.exchange_patch(m, number),
-    }
-}
-
-/// Each part of a reversal has steps: some exchanges that have the effect of the part, as many as the
-/// part takes.
-pub(crate) fn exchanges_of_part<M: Places>(m: M, plan: ReversalPlan, number: usize) -> M
-    requires below { number < parts_of plan }
-    requires plan { IsReversalPlan (length (M.items m)) plan }
-    requires len_fits { length (M.items m) < 2 ^ 64 }
-    ensures { (steps : List (ℕ × ℕ)) × (M.items result ≡ after_swaps (M.items m) steps)
-        × IsMadeAlone plan number (M.items m) steps }
-{
-    exchange_part(ExchangeSteps { places: m }, plan, number).places
-}
-
 /// The law for a reversal. Each part makes exchanges on the list 0, 1, 2 and so on. They are at
 /// places of the part, no two of these places are the same, and two parts have no place in common.
 /// Any interleaving of the exchanges of all parts reverses every list, by as many exchanges as the
@@ -192,45 +140,6 @@ pub(crate) fn reversal_in_parts<T>(plan: ReversalPlan)
         → IsRowReversal (width_of plan) old (after_swaps old all)
         × (length all ≡ row_swaps (length old) (width_of plan)) }
 {}
-
-/// Puts all parts of a plan for a transpose, in the order of their numbers, as one thread may do. In
-/// any holder this is the transpose, by as many puts as there are items.
-pub(crate) fn put_all_parts<C: Cells, R: Source<Item = C::Item> + Copy, O: PutRegion>(
-    out: C,
-    source: R,
-    plan: TransposePlan,
-    order: O,
-) -> C
-    requires input_fits { length (R.items source) ≡ plan.width * plan.height }
-    requires output_fits { length (C.items out) ≡ plan.width * plan.height }
-    ensures transposed { IsTranspose plan.width plan.height (R.items source) (C.items result) }
-    ensures holder { C.same_holder (plan.width * plan.height) out result }
-{
-    let mut out = out;
-    for number in 0..plan.count() {
-        out = order.put(
-            out,
-            Matrix::new(source, plan.width, plan.height),
-            plan.region(number),
-        );
-    }
-    out
-}
-
-/// Makes all parts of a reversal, in the order of their numbers, as one thread may do. In any holder
-/// this is the reversal, by as many exchanges as the reversal that is not cut.
-pub(crate) fn exchange_all_parts<M: Places>(m: M, plan: ReversalPlan) -> M
-    requires plan { IsReversalPlan (length (M.items m)) plan }
-    requires len_fits { length (M.items m) < 2 ^ 64 }
-    ensures reversed { IsRowReversal (width_of plan) (M.items m) (M.items result) }
-    ensures holder { M.same_holder (row_swaps (length (M.items m)) (width_of plan)) m result }
-{
-    let mut m = m;
-    for part in 0..plan.count() {
-        m = exchange_part(m, plan, part);
-    }
-    m
-}
 
 /// If the columns are cut, the cells of a region are consecutive, and those of the next region come
 /// right after them.
