@@ -3,7 +3,7 @@ use Rattle.std.proofs.Common.{ℕ, zero, suc, ◌≡◌, ◌+◌, ◌-◌, ◌*�
 use Rattle.std.proofs.Math.Nat.{div-lt_iff_lt-mul, mul-le-mul_right}
 use Rattle.std.specs.List.{swap}
 use Rattle.std.proofs.Math.Seq.{take-set-lt}
-use Rattle.std.proofs.lemmas.List.{length-set, set-append_left, set-set, take-set, drop-set-add, drop-set-lt, take-append-drop, get_or-take, get_or_default, take_all, get_or-drop, length-take-le}
+use Rattle.std.proofs.lemmas.List.{length-set, set-append_left, set-set, take-set, drop-set-add, drop-set-lt, take-append-drop, get_or-take, get_or_default, take_all, get_or-drop}
 use Rattle.std.proofs.lemmas.Option.{slice_get-get_or, slice_get_read}
 use Rattle.std.proofs.lemmas.List.Edits.{swap_is}
 use Rattle.std.proofs.lemmas.List.Concat.{get_or-flat_map}
@@ -20,18 +20,10 @@ one_row r c s d n i j within at at' order le =
       | inr after ↦ omega arith
     ]
 
--- the row of an item is one of the rows that there are
-pub row_within : (i n count total : ℕ) → i < total → (0 < total → total ≡ count * n) → i / n < count
-row_within i zero count total lt whole = absurd (omega (arith, whole (omega arith)))
-row_within i (suc k) count total lt whole = (div-lt_iff_lt-mul {k = suc k} {x = i} {y = count} (omega arith)).1 (omega (arith, whole (omega arith)))
-
 module _ {A : Type 0} where
   -- where row r begins
   abbrev start : List (List A) → ℕ → ℕ
   start rows r = length (flat (take r rows))
-
-  pub starts_at : (rows : List (List A)) (r n : ℕ) (all : List A) → r < length rows → all ≡ flat (take r rows) → length all ≡ length (take r rows) * n → start rows r ≡ r * n
-  starts_at rows r n all within is len = ap length (sym is) ∙ len ∙ ap (λ k. k * n) (length-take-le r rows (omega arith))
 
   -- an item of row r is written
   pub flat-set : (rows : List (List A)) (r c : ℕ) (w : A) → r < length rows → c < length (get_or rows r [])

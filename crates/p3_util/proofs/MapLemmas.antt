@@ -5,7 +5,7 @@ use Rattle.std.specs.Map.{lookup, set_value, keys_of}
 use Rattle.std.specs.Cmp.{IsEquivalence}
 use Rattle.std.proofs.lemmas.List.Quantifiers.{position-Some}
 use Rattle.std.proofs.lemmas.List.{map-append, get_or_push}
-use Rattle.std.proofs.lemmas.Map.{keys-set_value, lookup-set_value}
+use Rattle.std.proofs.lemmas.Map.{keys-set_value}
 use Rattle.std.proofs.lemmas.Map.Keys.{IsDistinct-push}
 use Rattle.std.proofs.lemmas.Map.Made.{is_some-lookup}
 use Rattle.std.proofs.Common.{nat_lt, inl, ◌⊎◌}
@@ -92,29 +92,6 @@ module _ {K V : Type 0} (eq : K → K → Bool) (es : List (K × V)) (k : K) whe
     pub distinct_new : IsEquivalence eq → HasDistinctKeys eq es → HasDistinctKeys eq (es ++ (k, v) ∷ [])
     distinct_new laws distinct =
         rw (map-append (λ (x : K × V). x.0) es ((k, v) ∷ [])) (IsDistinct-push laws (keys_of es) k distinct (sym (is_some-lookup (eq k) es) ∙ ap is_some (sym absent)))
-
--- A pair that was added last is found if its key passes and no other key does. If its key does not
--- pass, the look-up finds what it found before.
-lookup_push : {K V : Type 0} (test : K → Bool) (es : List (K × V)) (k : K) (v : V) → (test k ≡ true → lookup test es ≡ None)
-    → lookup test (es ++ (k, v) ∷ []) ≡ cond (test k) (Some v) (lookup test es)
-lookup_push test [] k v absent = refl
-lookup_push test (e ∷ es) k v absent =
-    elim (test e.0) as (λ b. (test k ≡ true → cond b (Some e.1) (lookup test es) ≡ None)
-    → cond b (Some e.1) (lookup test (es ++ (k, v) ∷ [])) ≡ cond (test k) (Some v) (cond b (Some e.1) (lookup test es))) [
-      | true ↦ λ h. elim (test k) as (λ b. (b ≡ true → Some e.1 ≡ None) → Some e.1 ≡ cond b (Some v) (Some e.1)) [ true ↦ λ g. absurd (let n = g refl in cc) | false ↦ λ g. refl ] h
-      | false ↦ λ h. lookup_push test es k v h
-    ] absent
-
--- a look-up after `put`
-module _ {K V : Type 0} {eq : K → K → Bool} (laws : IsEquivalence eq) where
-  pub lookup_put : (es : List (K × V)) (k : K) (v : V) (q : K) → value_at eq (put eq es k v) q ≡ cond (eq k q) (Some v) (value_at eq es q)
-  lookup_put es k v q =
-      elim (value_at eq es k) as (λ o. value_at eq es k ≡ o → value_at eq (cond (is_some o) (with_value eq es k v) (es ++ (k, v) ∷ [])) q ≡ cond (eq k q) (Some v) (value_at eq es q)) [
-        | Some w ↦ λ known. lookup-set_value laws (eq k) (λ x y same. laws.congr k x y same) q v es (rw known refl)
-        | None ↦ λ absent.
-            let same : eq q k ≡ true → value_at eq es q ≡ None = λ equal. ap (λ t. lookup t es) (fun_ext (λ z. laws.congr q k z equal)) ∙ absent in
-            rw (laws.symm q k) at (lookup_push (eq q) es k v same)
-      ] refl
 
 -- an iterator that returns the first item of the remaining list at each step returns the list in
 -- order

@@ -1,5 +1,5 @@
 -- What a run of an iterator over padded pieces gives, derived from what each of its steps gives.
-use Rattle.std.proofs.Common.{◌≡◌, ℕ, zero, suc, ◌+◌, ◌-◌, ◌*◌, ◌<◌, ◌≤◌, ◌⊎◌, inl, inr, Bool, true, false, true≢false, List, [], ◌∷◌, ◌++◌, map, Option, Some, None, length, refl, sym, ap, subst, ◌∙◌, arith, length-append, append_assoc, append-nil}
+use Rattle.std.proofs.Common.{◌≡◌, ℕ, zero, suc, ◌+◌, ◌-◌, ◌*◌, ◌<◌, ◌≤◌, ◌⊎◌, inl, inr, Bool, true, false, true≢false, List, [], ◌∷◌, ◌++◌, map, Option, None, length, refl, sym, ap, subst, ◌∙◌, arith, length-append, append_assoc, append-nil}
 use Rattle.std.specs.Prelude.{replicate, MatchBool, ◌==◌, if◌then◌else◌}
 use Rattle.std.specs.Iterator.{Yields, YieldsThen, DrainsIf}
 use Rattle.std.specs.Iterator.Runs.{Run, SomeRun, EachRunFrom}
@@ -9,7 +9,7 @@ use Rattle.std.proofs.lemmas.Bool.{cases_Bool}
 use Rattle.std.proofs.lemmas.List.{map-append, length-map}
 use Rattle.std.proofs.lemmas.List.Folds.{flat_map-map}
 use Rattle.p3_util.specs.Pieces.{piece_count, padded, pieces, padded_pieces}
-use Rattle.p3_util.specs.PaddedPieces.{TakesPiece, padded_source, padded_done, padded_fill, padded_steps, IsPaddedRun, EndsForGood}
+use Rattle.p3_util.specs.PaddedPieces.{TakesPiece, padded_source, padded_done, padded_fill, padded_steps, IsPaddedRun}
 use Rattle.p3_util.specs.declared.chunks.ArrayChunksPadded.{ArrayChunksPadded}
 use Rattle.p3_util.proofs.PiecesLemmas.{eq_zero-false, in-pieces, joined-more, joined-whole, piece_count-more, piece_count-whole, piece_count-none, pieces-nil, pieces-zero, pieces-more, length-pieces}
 
@@ -79,33 +79,12 @@ within : {S A : Type 0} (steps : S → Option A → S → Type 0) (n : ℕ) (s t
 within steps n s t xs true h = omega (arith, h.1.0)
 within steps n s t xs false h = omega (arith, h.1.0)
 
--- if there was no piece, the end was reached
-no-piece-ends : (zero d e : Bool) (X Y : Type 0) → zero ≡ false → (X → e ≡ d) → MatchBool (if zero then true else d) X (Y × (e ≡ true)) → e ≡ true
-no-piece-ends true d e X Y some same h = absurd (true≢false some)
-no-piece-ends false true e X Y some same h = same h
-no-piece-ends false false e X Y some same h = h.1
-
 no-piece-asks : (zero d e : Bool) (X Y : Type 0) → zero ≡ false → d ≡ false → MatchBool (if zero then true else d) X (Y × (e ≡ true)) → Y
 no-piece-asks true d e X Y some begun h = absurd (true≢false some)
 no-piece-asks false true e X Y some begun h = absurd (true≢false begun)
 no-piece-asks false false e X Y some begun h = h.0
 
 module _ {S A : Type 0} {n : ℕ} (steps : S → Option A → S → Type 0) where
-  empty-step : (s t : ArrayChunksPadded S A n) (piece : List A) → n ≡ 0 → padded_steps steps s (Some piece) t → ⊥
-  empty-step s t piece none h =
-      let l = within steps n (padded_source s) (padded_source t) h.1.1.0 (padded_done t) h.1.1.1 in
-      omega (arith, h.1.1.1.0, l, none)
-
-  ended-by : (s t : ArrayChunksPadded S A n) → 0 < n → padded_steps steps s None t → padded_done t ≡ true
-  ended-by s t some h = no-piece-ends (n == 0) (padded_done s) (padded_done t) (t ≡ s) (steps (padded_source s) None (padded_source t)) (eq_zero-false n some) (λ e. ap padded_done e) h.1
-
-  pub padded-ends : EndsForGood (padded_steps {n = n} steps)
-  padded-ends s t u None a b = refl
-  padded-ends s t u (Some piece) a b = elim (zero_or_some n) [
-    | inl none ↦ absurd (empty-step t u piece none b)
-    | inr some ↦ absurd (true≢false (sym (ended-by s t some a) ∙ b.1.0))
-  ]
-
   nothing-more : (s t : ArrayChunksPadded S A n) (ps : List (List A)) → padded_done s ≡ true → Yields (padded_steps steps) s ps t → (ps ≡ []) × (s ≡ t)
   nothing-more s t [] e y = (refl, y)
   nothing-more s t (p ∷ ps) e y = absurd (true≢false (sym e ∙ y.1.1.0))

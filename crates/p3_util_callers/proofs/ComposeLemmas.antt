@@ -6,7 +6,6 @@ use Rattle.p3_util_kernels.specs.Region.{IsRegionTransposed}
 use Rattle.p3_util_kernels.specs.Reversal.{IsReversal, IsRowReversal}
 use Rattle.p3_util_kernels.specs.Square.{IsSquareTransposed}
 use Rattle.p3_util_kernels.specs.SideBySide.{AreTransposed}
-use Rattle.p3_util_kernels.specs.Steps.{counted}
 use Rattle.p3_util_kernels.proofs.ReverseLemmas.LongPath.{IsReversal-composed}
 use Rattle.p3_util_kernels.proofs.GridLemmas.Pairs.{mul-parts_left, mul-parts_right}
 use Rattle.p3_util_kernels.proofs.TransposeLemmas.Region.{IsCut-cols, IsCut-rows, IsRegionTransposed-cut}
@@ -58,9 +57,6 @@ module _ (k : ℕ) where
   reversed_by_squares old first second new fits chunks squares again =
       let whole : k / 2 + (k - k / 2) ≡ k = omega arith in
       IsReversal-composed (k / 2) (k - k / 2) (omega arith) (omega arith) old first second new (rw whole fits) chunks squares again
-
-pub swaps_around : (c0 c1 c2 c3 a b : ℕ) → c1 ≡ counted c0 a → c2 ≡ counted c1 b → c3 ≡ counted c2 a → c3 ≡ counted c0 (2 * a + b)
-swaps_around c0 c1 c2 c3 a b e f g = omega arith
 
 -- the numbers of items of a region's two parts add up to that of the region
 pub rows_in_two : (start middle end cols : ℕ) → start ≤ middle → middle ≤ end → (middle - start) * cols + (end - middle) * cols ≡ (end - start) * cols

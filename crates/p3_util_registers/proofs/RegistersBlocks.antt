@@ -4,9 +4,9 @@ use Rattle.std.proofs.Math.Nat.{lt_of_mul-lt-mul_left, mul-le-mul_right}
 use Rattle.std.proofs.lemmas.Bool.{cases_lt}
 use Rattle.p3_util_kernels.specs.declared.places.Block.{Block}
 use Rattle.p3_util_kernels.specs.BlockPut.{BlockFits, IsBlockPut}
-use Rattle.p3_util_registers.specs.Registers.{AreDisjoint, AreColumns, AreReached, AreStored, ColumnsPut, IsSide, RowsReached}
+use Rattle.p3_util_registers.specs.Registers.{AreDisjoint, AreColumns, AreStored, ColumnsPut, IsSide}
 use Rattle.p3_util_kernels.proofs.PlacesLemmas.Blocks.{in_block}
-use Rattle.p3_util_registers.proofs.RegistersTiles.{AreDisjoint-rows, AreReached-rows, SquaresMoved-rows}
+use Rattle.p3_util_registers.proofs.RegistersTiles.{AreDisjoint-rows, SquaresMoved-rows}
 
 -- what is in one column is before the next one
 column_before : (a b height : ℕ) → a < b → a * height + height ≤ b * height
@@ -36,11 +36,6 @@ module _ (side : ℕ) (block : Block) (col input_len len : ℕ) (is : IsSide sid
   module _ (to : List ℕ) (at : (c : ℕ) → c < 8 → slice_index to c ≡ slice_index cols (slice_index tops c + c % side) + (c - c % side)) where
     at_row : (c : ℕ) → c < block.rows → slice_index to c ≡ slice_index cols (slice_index tops c + c % side) + (c - c % side)
     at_row c h = at c (in_all c h)
-
-    pub AreReached-block_to : (may : ℕ → Type 0) → RowsReached block.rows side (λ c. block.to + c * block.height) may → AreReached block.rows to may
-    AreReached-block_to may all =
-        AreReached-rows block.rows side known is (omega arith) (λ s. col) cols tops to (λ c h. below) (λ c h. is_top c (in_all c h)) at_row may
-        (λ r c h k. rw (at_cols r (in_all r h), (row_in_block block.rows r known).1 h) (all r c h k))
 
     pub AreDisjoint-block_to : AreDisjoint block.rows side to
     AreDisjoint-block_to = AreDisjoint-rows block.rows side known is (omega arith) (λ s. col) cols tops to (λ c h. below) (λ c h. is_top c (in_all c h)) at_row apart

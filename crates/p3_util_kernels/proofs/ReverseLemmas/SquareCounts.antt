@@ -1,7 +1,5 @@
 -- How many pairs of rows are exchanged: those of all squares.
-use Rattle.std.proofs.Common.{◌≡◌, ℕ, ◌+◌, ◌-◌, ◌*◌, ◌/◌, ◌%◌, ◌^◌, ◌<◌, ◌≤◌, ap, ◌∙◌, arith}
-use Rattle.std.proofs.Math.Nat.{mul-le-mul_left}
-use Rattle.std.proofs.Math.Pow.{pow_mono}
+use Rattle.std.proofs.Common.{◌≡◌, ℕ, ◌+◌, ◌-◌, ◌*◌, ◌/◌, ◌%◌, ◌^◌, ◌≤◌, ap, ◌∙◌, arith}
 use Rattle.std.proofs.lemmas.Nat.{pow-add}
 use Rattle.p3_util_kernels.specs.SwapCounts.{short_swaps, square_swaps}
 use Rattle.p3_util_kernels.proofs.GridLemmas.Pairs.{twice-pairs}
@@ -22,12 +20,3 @@ squares-short digits =
     let rest : digits - digits / 2 - digits / 2 ≡ digits % 2 = omega arith in
     let parts : digits / 2 + (digits % 2 + digits / 2) ≡ digits = omega arith in
     rw rest (rw parts at (two-squares (digits / 2) (digits % 2) (omega arith)))
-
--- a square in a list of n items takes fewer than n swaps
-pub square_swaps_fit : (base stride size n : ℕ) → size ≤ stride → base + (2 ^ size - 1) * 2 ^ stride + (2 ^ size - 1) < n
-    → 2 ^ size * (2 ^ size - 1) / 2 < n
-square_swaps_fit base stride size n within room =
-    let s = 2 ^ size in
-    let rows : (s - 1) * s ≤ (s - 1) * 2 ^ stride = mul-le-mul_left (s - 1) (pow_mono within) in
-    let turned : s * (s - 1) ≡ (s - 1) * s = omega arith in
-    rw turned (omega arith)

@@ -1,16 +1,8 @@
 -- Each turn of the loop puts one more part. After the loop the matrix is transposed.
 use Rattle.std.proofs.Common.{◌≡◌, ◌∙◌, arith}
 use Rattle.p3_util_parts.specs.Parts.{parts_in}
-use Rattle.p3_util_parts.proofs.PartsInOrder.{put-all, put-more, put-none, puts-more, puts-zero}
+use Rattle.p3_util_parts.proofs.PartsInOrder.{put-all, put-more, puts-more}
 use Rattle.p3_util_calls.proofs.laws.put_parts.Goals as goal
-
-pub loop-part-init : goal.loop-part-init
-loop-part-init g c = record {
-  plan = c.of-left.ensures.plan;
-  last = c.of-left.ensures.last;
-  put = rw c.of-left.ensures.first (put-none c.args.plan _ _);
-  holder = rw (c.of-left.ensures.first, puts-zero c.args.plan) (g.met.M.Cells.same_holder_refl _);
-}
 
 pub loop-part-preserved : goal.loop-part-preserved
 loop-part-preserved g c =
@@ -25,11 +17,6 @@ loop-part-preserved g c =
       put = rw told.some.2 (put-more c.args.plan c.loop-part.left.next _ _ _ _ before.put put);
       holder = rw told.some.2 (g.met.M.Cells.same_holder_trans _ _ _ _ _ _ before.holder puts (puts-more c.args.plan c.loop-part.left.next));
     }
-
-pub returns-clause-transposed : goal.returns-clause-transposed
-returns-clause-transposed g c =
-    let end : c.loop-part.left.next ≡ parts_in c.args.plan.cut.len c.args.plan.cut.part_len = grind (arith, c.in_default.ensures.none, c.loop-part.invariant.last) in
-    (put-all c.args.plan _ _ _ c.requires.output_fits (rw end at c.loop-part.invariant.put)).0
 
 pub returns-clause-holder : goal.returns-clause-holder
 returns-clause-holder g c =

@@ -1,5 +1,5 @@
 -- Each turn of the loop makes one more part. After the loop the rows are reversed.
-use Rattle.std.proofs.Common.{◌≡◌, ◌∙◌, ◌<◌, arith}
+use Rattle.std.proofs.Common.{◌≡◌, ◌∙◌, ◌<◌}
 use Rattle.p3_util_parts.specs.Plans.{parts_of}
 use Rattle.p3_util_parts.proofs.PartsInOrder.{made-all, made-length, made-more, made-none, swaps-all, swaps-more, swaps-none}
 use Rattle.p3_util_calls.proofs.laws.reverse_parts.Goals as goal
@@ -11,14 +11,6 @@ loop-part-init g c = record {
   made = rw c.of-left.ensures.first (made-none c.args.plan _);
   holder = rw (c.of-left.ensures.first, swaps-none c.args.plan _) (g.met.M.Places.same_holder_refl _);
 }
-
-pub reverse_part-items-requires-clause-plan : goal.reverse_part-items-requires-clause-plan
-reverse_part-items-requires-clause-plan g c =
-    let plan : c.in-Some.part.plan ≡ c.args.plan = c.in-Some.ensures.some.0 ∙ c.loop-part.invariant.plan in
-    rw (plan, made-length c.args.plan c.loop-part.left.next _ _ c.loop-part.invariant.made) c.requires.plan
-
-pub reverse_part-items-requires-clause-len_fits : goal.reverse_part-items-requires-clause-len_fits
-reverse_part-items-requires-clause-len_fits g c = rw (made-length c.args.plan c.loop-part.left.next _ _ c.loop-part.invariant.made) c.requires.len_fits
 
 pub loop-part-preserved : goal.loop-part-preserved
 loop-part-preserved g c =

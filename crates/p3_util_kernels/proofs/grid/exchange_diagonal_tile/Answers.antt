@@ -45,10 +45,6 @@ loop-col-preserved g c =
       holder = g.met.M.Places.same_holder_trans _ _ _ _ _ _ c.loop-col.invariant.holder c.exchange_places-m.ensures.holder more;
     }
 
-pub tile_rows-places-requires-clause-tile : goal.tile_rows-places-requires-clause-tile
-tile_rows-places-requires-clause-tile g c =
-    record { x = c.args.start; y = c.args.start; whole = c.requires.whole; x_below = c.requires.within; y_below = omega arith; is = omega arith }
-
 pub overflow_add-places : goal.overflow_add-places
 overflow_add-places g c =
     let start = c.args.start in

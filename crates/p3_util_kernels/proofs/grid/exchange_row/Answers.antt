@@ -1,13 +1,7 @@
 -- Each turn of the loop exchanges one more place of the row.
 use Rattle.std.proofs.Common.{◌≡◌, ◌+◌, ◌-◌, ◌*◌, arith}
-use Rattle.p3_util_kernels.proofs.GridLemmas.Parts.{SwapsInGrid-item, one_place}
+use Rattle.p3_util_kernels.proofs.GridLemmas.Parts.{SwapsInGrid-item}
 use Rattle.p3_util_kernels.proofs.grid.exchange_row.Goals as goal
-
-pub exchange_places-m-requires-clause-apart : goal.exchange_places-m-requires-clause-apart
-exchange_places-m-requires-clause-apart g c e =
-    let at = rw (c.start-first.ensures, c.start.ensures) at e in
-    let same = one_place c.args.grid _ c.requires.ready c.args.row c.loop-col.col c.loop-col.col c.args.row (omega arith) (omega arith) (omega arith) (omega arith) at in
-    omega (arith, same.0)
 
 pub loop-col-preserved : goal.loop-col-preserved
 loop-col-preserved g c =

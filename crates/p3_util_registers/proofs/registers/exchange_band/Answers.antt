@@ -1,16 +1,10 @@
 -- Both parts are read before one of them is written.
-use Rattle.std.proofs.Common.{inl, inr, refl, arith}
+use Rattle.std.proofs.Common.{inr, refl, arith}
 use Rattle.std.proofs.Math.ListN.{replicate}
 use Rattle.std.proofs.lemmas.List.{get_or-replicate}
 use Rattle.p3_util_registers.specs.Registers.{items_of_four}
 use Rattle.p3_util_registers.proofs.RegistersTiles.{AreDisjoint-rows, RowsExchanged-band}
 use Rattle.p3_util_registers.proofs.registers.exchange_band.Goals as goal
-
-pub store-requires-clause-apart : goal.store-requires-clause-apart
-store-requires-clause-apart g c a b h k =
-    let of_a = c.in_column-in_y.ensures a (omega arith) in
-    let of_b = c.in_column-in_y.ensures b k in
-    elim (c.requires.tiles.second_apart a b h k) [ inl u ↦ inl (omega (arith, c.requires.below)) | inr u ↦ inr (omega (arith, c.requires.below)) ]
 
 pub store-requires-2-clause-apart : goal.store-requires-2-clause-apart
 store-requires-2-clause-apart g c =

@@ -3,7 +3,7 @@ use Rattle.std.proofs.Common.{arith}
 use Rattle.std.proofs.Math.ListN.{replicate}
 use Rattle.std.proofs.lemmas.List.{get_or-replicate}
 use Rattle.p3_util_registers.specs.Registers.{items_of_four}
-use Rattle.p3_util_registers.proofs.RegistersBlocks.{AreReached-block_to, AreDisjoint-block_to, ColumnsPut-step}
+use Rattle.p3_util_registers.proofs.RegistersBlocks.{AreDisjoint-block_to, ColumnsPut-step}
 use Rattle.p3_util_registers.proofs.registers.put_squares.Goals as goal
 
 pub starts-requires-clause-fits : goal.starts-requires-clause-fits
@@ -11,11 +11,6 @@ starts-requires-clause-fits g c r h = omega (arith, c.requires.source_len_fits, 
 
 pub starts-requires-2-clause-fits : goal.starts-requires-2-clause-fits
 starts-requires-2-clause-fits g c r h = omega (arith, c.requires.cells_len_fits, c.requires.block.room c.args.col r (omega arith) (omega (arith, c.requires.square)))
-
-pub store-requires-clause-reached : goal.store-requires-clause-reached
-store-requires-clause-reached g c =
-    AreReached-block_to _ c.args.block c.args.col _ _ c.requires.some_side c.requires.known c.requires.below c.requires.square c.requires.block _ _ (replicate 8 c.args.col) (λ j h. get_or-replicate 8 j c.args.col 0 h)
-    c.starts.ensures.are c.starts-2.ensures.are _ (λ k h. rw (get_or-replicate 8 k c.args.col 0 h) ((rw c.SIDE.ensures at c.in_band-to.ensures) k h)) (g.M.Runs.may (g.M.Runs.reach c.args.cells.now)) c.requires.writes
 
 pub store-requires-clause-apart : goal.store-requires-clause-apart
 store-requires-clause-apart g c =

@@ -12,11 +12,6 @@ starts-from-requires-clause-fits g c r h = omega (arith, c.requires.source_len_f
 pub starts-to-requires-clause-fits : goal.starts-to-requires-clause-fits
 starts-to-requires-clause-fits g c r h = omega (arith, c.requires.cells_len_fits, c.requires.block.room 0 r (omega arith) (omega (arith, c.requires.square)))
 
-pub store_columns-requires-clause-apart : goal.store_columns-requires-clause-apart
-store_columns-requires-clause-apart g c =
-    AreDisjoint-block_to _ c.args.block c.args.col _ _ c.requires.some_side c.requires.known (omega (arith, c.requires.below)) c.requires.square c.requires.block _ _ (replicate 8 c.args.col)
-    (λ j h. get_or-replicate 8 j c.args.col 0 h) c.starts-from.ensures.are c.starts-to.ensures.are _ (λ k h. rw (get_or-replicate 8 k c.args.col 0 h) ((rw c.SIDE-side.ensures at c.in_band.ensures) k h))
-
 pub store_columns-requires-2-clause-apart : goal.store_columns-requires-2-clause-apart
 store_columns-requires-2-clause-apart g c =
     let next = c.args.col + c.SIDE-side.result in

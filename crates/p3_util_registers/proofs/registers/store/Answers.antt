@@ -1,7 +1,7 @@
 -- Two or four registers are stored, one after the other.
 use Rattle.std.proofs.Common.{◌*◌, refl, arith}
 use Rattle.p3_util_registers.proofs.RegistersLemmas.{AreStored-none, AreStored-more, fewer}
-use Rattle.p3_util_registers.proofs.RegistersSteps.{four_times, twice}
+use Rattle.p3_util_registers.proofs.RegistersSteps.{four_times}
 use Rattle.p3_util_registers.proofs.registers.store.Goals as goal
 
 pub returns-then-count-eq8-clause-stored : goal.returns-then-count-eq8-clause-stored
@@ -27,8 +27,3 @@ returns-then-count-eq8-clause-holder g c =
     rw c.if-count-eq8.true
     (four_times _ g.M.Runs.same_holder g.met.M.Runs.same_holder_trans (2 * g.D.Register.SIDE) _ _ _ _ _ _ c.store_two.ensures.holder c.store_two-2.ensures.holder c.store_two-then-count-eq8.ensures.holder c.store_two-then-count-eq8-2.ensures.holder
     (omega arith))
-
-pub returns-else-count-eq8-clause-holder : goal.returns-else-count-eq8-clause-holder
-returns-else-count-eq8-clause-holder g c =
-    rw (fewer c.args.count c.requires.known c.if-count-eq8.false)
-    (twice _ g.M.Runs.same_holder g.met.M.Runs.same_holder_trans (2 * g.D.Register.SIDE) _ _ _ _ c.store_two.ensures.holder c.store_two-2.ensures.holder (omega arith))

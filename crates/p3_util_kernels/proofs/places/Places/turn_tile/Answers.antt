@@ -13,14 +13,6 @@ loop-col-init g c =
       holder = rw none (g.met.Self.Places.same_holder_refl _);
     }
 
-pub exchange-requires-clause-first : goal.exchange-requires-clause-first
-exchange-requires-clause-first g c =
-    omega (arith, c.requires.inside c.loop-row.row (omega arith), c.loop-col.invariant.turned.same_length)
-
-pub exchange-requires-clause-second : goal.exchange-requires-clause-second
-exchange-requires-clause-second g c =
-    omega (arith, c.requires.inside c.loop-col.col (omega arith), c.loop-col.invariant.turned.same_length)
-
 pub loop-col-preserved : goal.loop-col-preserved
 loop-col-preserved g c = record {
   turned = TileTurned-more _ _ c.requires c.loop-row.row c.loop-col.col _ _ _ refl (omega arith) (omega arith)

@@ -17,9 +17,6 @@ square : (region : Region) → region.row_start ≤ region.row_end → region.ro
     → square_at region.row_start (rows_of region) ≡ region
 square region order start end = let size : region.row_start + rows_of region ≡ region.row_end = omega arith in rw (size, end, start) refl
 
-pub grid-grid-requires-clause-middle : goal.grid-grid-requires-clause-middle
-grid-grid-requires-clause-middle g c = below _ _ _ _ _ c.patch-middle.ensures
-
 pub exchange_quadrants-requires-clause-ready : goal.exchange_quadrants-requires-clause-ready
 exchange_quadrants-requires-clause-ready g c =
     let digits = c.args.self.rows.digits in

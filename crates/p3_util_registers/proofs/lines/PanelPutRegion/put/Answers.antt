@@ -58,12 +58,6 @@ loop-col-preserved g c =
           }
     ]
 
-pub loop-done-preserved-then-next-rows : goal.loop-done-preserved-then-next-rows
-loop-done-preserved-then-next-rows g c = record {
-  put = c.put_row-out.ensures.put _ c.loop-done.invariant.put;
-  holder = c.put_row-out.ensures.holder _ c.loop-done.invariant.holder;
-}
-
 pub loop-done-preserved-then-skew-eq0 : goal.loop-done-preserved-then-skew-eq0
 loop-done-preserved-then-skew-eq0 g c =
     let region = c.args.region in

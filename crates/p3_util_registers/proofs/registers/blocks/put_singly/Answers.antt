@@ -11,12 +11,6 @@ loop-r-init g c =
 pub overflow_mul-c : goal.overflow_mul-c
 overflow_mul-c g c = omega (arith, c.requires.room c.loop-r.r c.loop-c.c (omega arith) (omega arith), c.loop-r.invariant.put.same_length)
 
-pub overflow_add-to : goal.overflow_add-to
-overflow_add-to g c = omega (arith, c.requires.room c.loop-r.r c.loop-c.c (omega arith) (omega arith), c.loop-r.invariant.put.same_length)
-
-pub overflow_add-to-in-loop-r : goal.overflow_add-to-in-loop-r
-overflow_add-to-in-loop-r g c = omega (arith, c.requires.room c.loop-r.r c.loop-c.c (omega arith) (omega arith), c.loop-r.invariant.put.same_length)
-
 pub overflow_mul-r : goal.overflow_mul-r
 overflow_mul-r g c = omega (arith, c.requires.inside c.loop-r.r c.loop-c.c (omega arith) (omega arith))
 
