@@ -2,8 +2,7 @@
 
 use crate::keys::Spelling;
 use crate::tests::checks::{equal, found, same};
-use crate::tests::oracle::map::{SCRIPT, SCRIPT_PAIRS};
-use Call::{Get, Insert, Write};
+use Call::{Get, GetOrInsert, Insert, Write};
 use p3_util::linear_map::LinearMap;
 use std::alloc::{AllocError, Global};
 use std::cell::Cell;
@@ -13,7 +12,7 @@ use std::process::Abort;
 
 /// A call on a map.
 #[derive(Drop)]
-pub(crate) enum Call<K, V> {
+enum Call<K, V> {
     Insert(K, V),
     Get(K),
     /// Writes to the value that `get_mut` lends, if the key is in the map.
@@ -103,11 +102,11 @@ fn check_made<K: Eq + Copy + Debug, V: PartialEq + Copy + Debug>(
 #[test]
 fn scripts_of_calls(rt: HostRuntime) {
     let alloc = rt.alloc();
-    replay(&rt, alloc, &SCRIPT, &SCRIPT_PAIRS);
     let calls = [
         (Write(42, 0), None),
         (Insert(42u32, 100u32), None),
         (Write(42, 101), Some(100)),
+        (GetOrInsert(42, 7), Some(101)),
         (Get(42), Some(101)),
         (Write(999, 0), None),
     ];

@@ -4,7 +4,6 @@
 //! rustc 1.95 at optimization level 3 without its parallel feature. They are lists that a test goes
 //! through in one loop.
 
-pub mod map;
 pub mod pieces;
 pub mod reversals;
 pub mod transposes;
