@@ -17,7 +17,7 @@
 //! | 1 or 2 bytes | high, by blocks of 8 by 8 | a register holds one or two rows of such a block |
 //! | 4 or 8 bytes | high, by blocks of 4 by 4. On aarch64, by blocks of 8 by 8 | a register holds a row of 4, or half a row. See [`side_of`] |
 //! | 1 KiB and more | of 16 rows, column after column, each item by a function of its own | in a build without optimization, other functions would have copies of it on the stack |
-//! | 12 to 23 bytes but 16: `FAR_ITEM`, `FAR_LIMIT`, `FAR_VECTOR`, in a list of more than 512 KiB: `FAR_LIST` | low, column after column | see [`strips_of`] |
+//! | 12 bytes and more but 16: `FAR_ITEM`, `FAR_VECTOR`, in a list of more than 512 KiB: `FAR_LIST` | low, column after column | see [`strips_of`] |
 //! | all others | low if 16 divides the width, otherwise high, column after column | see `Strips::by_width` |
 //!
 //! Strips of items of 12 bytes and more have at most 512 columns, [`FAR_COLUMNS`], if the list has more than 512 KiB. The cells of
@@ -47,10 +47,7 @@ const FAR_LIST: usize = 1 << 19;
 /// The least number of bytes of an item for which it matters that a list is far.
 const FAR_ITEM: usize = 12;
 
-/// Far items of so many bytes and more take less time by high strips.
-const FAR_LIMIT: usize = 24;
-
-/// Far items of so many bytes, which are as long as a vector register, take less time by high strips, too.
+/// Far items of so many bytes, which are as long as a vector register, take less time by high strips.
 const FAR_VECTOR: usize = 16;
 
 /// The greatest number of columns of a strip of far items.
@@ -111,10 +108,9 @@ impl Limits {
 }
 
 /// The strips of a matrix of items of `size` bytes, and of the leaves of its parts. If they are put by squares, these have `SIDE`
-/// by `SIDE` items: `SIDE` is [`side_of`] these items. Others are low if the width says so, or if their list `is_far` and they
-/// are short. A strip is read column by column, so each of its rows is a stream of its own, and processors read ahead in few of
-/// them: in 32 at most. Longer items, and those of 16 bytes, take less time by high strips, whose columns are longer runs of
-/// cells.
+/// by `SIDE` items: `SIDE` is [`side_of`] these items. Others are low if the width says so, or if their list `is_far`. A strip is
+/// read column by column, so each of its rows is a stream of its own, and processors read ahead in few of them: in 32 at most.
+/// Items of 16 bytes take less time by high strips, whose columns are longer runs of cells.
 #[inline(always)]
 pub(crate) fn strips_of<const SIDE: usize>(
     size: usize,
@@ -123,7 +119,7 @@ pub(crate) fn strips_of<const SIDE: usize>(
 ) -> Strips<SIDE, HIGH_ROWS> {
     if SIDE > 1 {
         Strips::Squares
-    } else if is_far && size < FAR_LIMIT && size != FAR_VECTOR {
+    } else if is_far && size != FAR_VECTOR {
         Strips::Low
     } else {
         Strips::by_width(width)
