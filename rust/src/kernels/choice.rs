@@ -9,8 +9,9 @@
 //! | a whole call, fewer than two rows or columns | as a copy | its items keep their order |
 //! | a whole call, one block: [`side_of`] | as this block | in registers |
 //! | a whole call, fewer than 256 items of less than 1 KiB, or 128 with blocks in registers: [`few_items_of`], [`LONG_BYTES`] | column after column, in code that is inlined without debug assertions | another call would take as long |
+//! | 32 MiB and more, items of 32, 48, .. 128 bytes at a multiple of 16: [`is_streamed`], 128 bytes and more in a row of the matrix or part, and 320 in a column: [`Limits`] | in strips of 24 rows: [`STREAMED_ROWS`], past the caches | what is stored past the caches is not read first. Only whole lines are fast, and a column of such a strip has 10 or more of them between the two parts of lines at its ends |
 //! | a whole call, up to 1048576 items: `LARGE_MATRIX` | in strips | the lines and pages in use stay in the caches |
-//! | 16 MiB and more, items of 4, 8 or 16 bytes at a multiple of their size, 128 bytes and more in a row of the matrix or part, and 320 in a column: [`Limits`] | by lines | what is stored past the caches is not read first, but whole lines have to be stored. A part of a line, which a column may have at both of its ends, takes longer |
+//! | 16 MiB and more, items of 4, 8 or 16 bytes at a multiple of their size, 128 bytes and more in a row of the matrix or part, and 320 in a column | by lines, past the caches | a column of a strip would have few whole lines |
 //! | all others | in leaves, with the same strips | a leaf stays in the caches |
 //!
 //! | Items | Strips | Why |
@@ -18,14 +19,14 @@
 //! | 1 or 2 bytes | high, by blocks of 8 by 8 | a register holds one or two rows of such a block |
 //! | 4 or 8 bytes | high, by blocks of 4 by 4. On aarch64, by blocks of 8 by 8 | a register holds a row of 4, or half a row. See [`side_of`] |
 //! | 1 KiB and more | of 16 rows, column after column, each item by a function of its own | in a build without optimization, other functions would have copies of it on the stack |
-//! | 12 bytes and more but 16: `FAR_ITEM`, `FAR_VECTOR`, in a list of more than 512 KiB: `FAR_LIST` | low, column after column | see [`strips_of`] |
+//! | 12 bytes and more but 16: `FAR_ITEM`, `VECTOR`, in a list of more than 512 KiB: `FAR_LIST` | low, column after column | see [`strips_of`] |
 //! | all others | low if 16 divides the width, otherwise high, column after column | see `Strips::by_width` |
 //!
 //! Strips of items of 12 bytes and more have at most 512 columns, [`FAR_COLUMNS`], if the list has more than 512 KiB. The cells of
 //! the next strip begin in the lines in which those of this one end, which are then still in the second-level cache.
 //!
-//! Lines are put on x86-64, and blocks where items are transposed in registers. Elsewhere these rows fit no matrix. Where each
-//! index is tested, [`row_blocks_of`] comes before the strips.
+//! Items are put past the caches on x86-64, and by blocks where they are transposed in registers. Elsewhere these rows fit no
+//! matrix. Where each index is tested, [`row_blocks_of`] comes before the strips.
 
 #[cfg(target_pointer_width = "32")]
 use crate::width::Index as usize;
@@ -48,11 +49,17 @@ const FAR_LIST: usize = 1 << 19;
 /// The least number of bytes of an item for which it matters that a list is far.
 const FAR_ITEM: usize = 12;
 
-/// Far items of so many bytes, which are as long as a vector register, take less time by high strips.
-const FAR_VECTOR: usize = 16;
+/// The bytes of a vector register. Far items that are as long take less time by high strips.
+const VECTOR: usize = 16;
 
 /// The greatest number of columns of a strip of far items.
 pub(crate) const FAR_COLUMNS: usize = 512;
+
+/// Longer items take no less time past the caches.
+const STREAMED_ITEM: usize = 128;
+
+/// The rows of a strip of items that are put past the caches one by one.
+pub(crate) const STREAMED_ROWS: usize = 24;
 
 /// Where each index is tested, items of so many bytes are put one by one if their list has more than `ROWS_LONG_LIST` bytes.
 const ROWS_LONG_ITEM: usize = 16;
@@ -62,11 +69,13 @@ const ROWS_LONG_LIST: usize = 1 << 19;
 /// Where each index is tested, a matrix with columns of so many bytes is put by blocks of 16 rows.
 const ROWS_LONG_COLUMN: usize = 1 << 9;
 
-/// From how many bytes on a matrix is put by lines.
+/// From how many bytes on a matrix is put past the caches.
 #[derive(Clone, Copy)]
 pub(crate) struct Limits {
     /// Those of the list.
     pub list: usize,
+    /// The same, if an item is longer than a vector register.
+    pub long_list: usize,
     /// Those in a row of the matrix or part.
     pub row: usize,
     /// Those in a column.
@@ -79,12 +88,13 @@ impl Limits {
     pub(crate) const fn of_users() -> Limits {
         Limits {
             list: 1 << 24,
+            long_list: 1 << 25,
             row: 128,
             column: 320,
         }
     }
 
-    /// Whether a region of a matrix of items of `size` bytes is put by lines. `at` is the address of the first cell of the
+    /// Whether a region of a matrix of items of `size` bytes is put past the caches. `at` is the address of the first cell of the
     /// output. The list is in memory, so no product wraps.
     #[inline(always)]
     pub(crate) fn fit<R: Copy>(
@@ -95,12 +105,13 @@ impl Limits {
         at: usize,
     ) -> bool {
         let items = matrix.width.wrapping_mul(matrix.height);
-        let is_aligned = match size {
-            4 | 8 | 16 => at % size == 0,
-            _ => false,
+        let (unit, list) = match size {
+            4 | 8 | 16 => (size, self.list),
+            _ if is_streamed(size) => (VECTOR, self.long_list),
+            _ => return false,
         };
-        is_aligned
-            && items.wrapping_mul(size) >= self.list
+        at % unit == 0
+            && items.wrapping_mul(size) >= list
             && region.cols().wrapping_mul(size) >= self.row
             && region.rows().wrapping_mul(size) >= self.column
     }
@@ -118,7 +129,7 @@ pub(crate) fn strips_of<const SIDE: usize>(
 ) -> Strips<SIDE, HIGH_ROWS> {
     if SIDE > 1 {
         Strips::Squares
-    } else if is_far && size != FAR_VECTOR {
+    } else if is_far && size != VECTOR {
         Strips::Low
     } else {
         Strips::by_width(width)
@@ -177,11 +188,16 @@ pub(crate) const fn few_items_of(side: usize) -> usize {
     }
 }
 
-/// Whether items of `size` bytes may be put by lines. On aarch64, that was not tried.
+/// Whether items of `size` bytes may be put past the caches. On aarch64, that was not tried.
 #[inline(always)]
 pub(crate) const fn has_lines(size: usize, has_registers: bool, is_x86_64: bool) -> bool {
     match size {
         4 | 8 | 16 => has_registers && is_x86_64,
-        _ => false,
+        _ => has_registers && is_x86_64 && is_streamed(size),
     }
+}
+
+/// Whether items of `size` bytes may be put past the caches one by one: those of two to eight vector registers.
+pub(crate) const fn is_streamed(size: usize) -> bool {
+    VECTOR < size && size <= STREAMED_ITEM && size % VECTOR == 0
 }

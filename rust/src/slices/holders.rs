@@ -6,6 +6,7 @@
 //! Then parts of an item and fences would take several times as long, and so would `add`, which is a call there.
 
 use core::marker::PhantomData;
+use core::mem::MaybeUninit;
 use core::ptr;
 use core::slice::from_raw_parts;
 use core::sync::atomic::{Ordering, compiler_fence};
@@ -48,6 +49,9 @@ pub(super) struct SliceItems<'a, T, D = Two<()>> {
     len: usize,
     slice: PhantomData<(&'a mut [T], D)>,
 }
+
+/// The registers of some items.
+type Vectors<'a> = SliceItems<'a, Bytes<16>, Two<Vector>>;
 
 /// No register: items are moved one by one.
 impl<T> Single<T> for () {}
@@ -315,8 +319,8 @@ impl<T, E, D: Register<T>> Runs<T, D> for SliceItems<'_, T, E> {
     }
 }
 
-/// The same cells, of which whole cache lines are stored past the caches. [`SliceItems::put_past_caches`] makes one, and a fence
-/// follows.
+/// The same cells, of which whole cache lines and long items are stored past the caches. [`SliceItems::put_past_caches`] makes one,
+/// and a fence follows.
 pub(super) struct PastCaches<'a, T, D>(pub(super) SliceItems<'a, T, D>);
 
 impl<T: Copy, D: Register<T>> Cells for PastCaches<'_, T, D> {
@@ -326,9 +330,21 @@ impl<T: Copy, D: Register<T>> Cells for PastCaches<'_, T, D> {
         self.0.len
     }
 
+    /// Stores an item of two or more whole registers past the caches, register by register, if it is aligned. A shorter one that is
+    /// put by itself is in no whole line.
     #[inline(always)]
     fn put(&mut self, i: usize, v: T) {
-        self.0.put(i, v);
+        let parts = size_of::<T>() / size_of::<Vector>();
+        if const { size_of::<T>() < 32 || size_of::<T>() % 16 != 0 } || self.0.first.addr() % 16 != 0 {
+            return self.0.put(i, v);
+        }
+        let mut v = MaybeUninit::new(v);
+        let item = Vectors::of(v.as_mut_ptr().cast(), parts);
+        let mut cells = PastCaches(Vectors::of(self.0.first.cast(), self.0.len * parts));
+        for part in 0..parts {
+            let run = Runs::<_, Two<Vector>>::load(&item, part);
+            Runs::<_, Two<Vector>>::stream(&mut cells, i * parts + part, run);
+        }
     }
 
     #[cfg_attr(debug_assertions, inline(never))]

@@ -34,8 +34,13 @@ pub(super) use super::holders::USES_REGISTERS;
 
 /// From how many bytes on short lists are put by lines in tests that pass these limits.
 pub(super) const fn near() -> Limits {
-    let (list, row, column) = (1 << 10, 1, 1);
-    Limits { list, row, column }
+    let (list, long_list, row, column) = (1 << 10, 1 << 10, 1, 1);
+    Limits {
+        list,
+        long_list,
+        row,
+        column,
+    }
 }
 
 /// The index in a matrix of `width` columns and `height` rows of the item that its transpose has at `place`.
@@ -676,6 +681,19 @@ mod refused {
                 assert_eq!(panics(|| call(&mut places)), is_wrong, "a store at {place} of {len}");
             }
         }
+    }
+
+    /// An item that is stored past the caches has to be inside the list, too.
+    #[cfg(not(feature = "checked"))]
+    #[test]
+    fn items_past_the_caches() {
+        let mut list = Aligned([[7_u32; 8]; 600]);
+        for place in 0..6 {
+            let put = || PastCaches(SliceItems::new(&mut list.0[..5])).put(place, [1, 2, 3, 4, 5, 6, 7, 8]);
+            assert_eq!(panics(put), place == 5, "{place}");
+        }
+        assert_eq!(list.0[..5], [[1, 2, 3, 4, 5, 6, 7, 8]; 5]);
+        assert_eq!(list.0[5], [7; 8]);
     }
 
     #[test]

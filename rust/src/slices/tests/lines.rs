@@ -34,7 +34,7 @@ fn transposes<T: Copy + Debug + PartialEq + Send + Sync>(
     );
 }
 
-/// Every offset of both lists within a cache line, for items of 4, 8 and 16 bytes, and columns that are whole lines or not.
+/// Every offset of both lists within a cache line, for items of 4, 8, 16 and 32 bytes, and columns that are whole lines or not.
 #[test]
 fn all_offsets() {
     for (input, output) in (0..16).flat_map(|input| (0..16).map(move |output| (input, output))) {
@@ -43,32 +43,41 @@ fn all_offsets() {
         transposes([21, 37], [input, output], 2, |number| number as u32);
         transposes([21, 37], [input % 8, output % 8], 2, |number| number);
         transposes([21, 16 + input % 2], [input % 4, output % 4], 2, |number| [number, 7]);
+        transposes([21, 47 + input % 2], [input % 2, output % 2], 2, |number| {
+            [number, 7, 8, 9]
+        });
     }
 }
 
 /// Some bytes, and then the items of a list.
 #[repr(C)]
-struct After<const BYTES: usize> {
+struct After<const BYTES: usize, const SIZE: usize> {
     before: [u8; BYTES],
-    items: [[u8; 4]; 33 * 48],
+    items: [[u8; SIZE]; 33 * 48],
 }
 
 /// Items that may begin at any address.
 #[test]
 fn all_addresses() {
-    fn transposes<const BYTES: usize>() {
+    fn transposes<const BYTES: usize, const SIZE: usize>() {
         let mut list = Box::new(After {
             before: [9; BYTES],
-            items: [[0; 4]; 33 * 48],
+            items: [[0; SIZE]; 33 * 48],
         });
-        let input: Vec<[u8; 4]> = (0..33 * 48u32).map(u32::to_le_bytes).collect();
+        let number = |number: usize| std::array::from_fn(|byte| (number >> (byte % 4 * 8)) as u8 ^ byte as u8);
+        let input: Vec<[u8; SIZE]> = (0..33 * 48).map(number).collect();
         transpose(&input, &mut list.items, 33, 48, 3).for_each(TransposePart::run_near);
         let wanted = |place: usize| input[place % 48 * 33 + place / 48];
         assert!(list.items.iter().enumerate().all(|(place, got)| *got == wanted(place)));
         assert_eq!(list.before, [9; BYTES]);
     }
     macro_rules! after {
-        ($($bytes:literal)*) => { $(transposes::<$bytes>();)* };
+        ($($bytes:literal)*) => { $(
+            transposes::<$bytes, 4>();
+            transposes::<$bytes, 32>();
+            transposes::<$bytes, 64>();
+            transposes::<$bytes, 128>();
+        )* };
     }
     after!(0 1 2 3 4 5 6 7 8 12 15 16 17 20 31 32 33 47 48 60 61 62 63 64);
 }
@@ -81,6 +90,7 @@ fn all_heights() {
             transposes([width, height], [2, 7], parts, |number| number);
             transposes([width, height], [0, 0], parts, |number| number as f64);
             transposes([width, height], [1, 3], parts, |number| [number, 7]);
+            transposes([width, height], [1, 3], parts, |number| [number, 7, 8, 9]);
         }
     }
 }
@@ -89,12 +99,16 @@ fn all_heights() {
 #[test]
 #[cfg_attr(miri, ignore = "too long")]
 fn whole_calls() {
-    for (width, height) in [(1030, 1040), (16400, 64), (64, 16400), (1025, 1025), (1031, 1029)] {
-        let input: Vec<u32> = (0..width as u32 * height as u32).collect();
-        let mut output = std::vec![0; input.len()];
+    fn transposes<T: Copy + PartialEq + Send + Sync>([width, height]: [usize; 2], item: impl Fn(usize) -> T) {
+        let input: Vec<T> = (0..width * height).map(&item).collect();
+        let mut output = std::vec![item(0); input.len()];
         crate::slices::transpose(&input, &mut output, width, height);
         let wanted = |place| input[transposed(width, height, place)];
         assert!(output.iter().enumerate().all(|(place, got)| *got == wanted(place)));
+    }
+    for (width, height) in [(1030, 1040), (16400, 64), (64, 16400), (1025, 1025), (1031, 1029)] {
+        transposes([width, height], |number| number as u32);
+        transposes([width, height / 2], |number| [number, 7, 8, 9]);
     }
 }
 

@@ -262,6 +262,8 @@ fn transposes_touch_their_lists_alone() {
     transposes::<4>();
     transposes::<8>();
     transposes::<16>();
+    transposes::<32>();
+    transposes::<64>();
 }
 
 /// A hint reads nothing: here no address that it names can be read, and the others are in no list.
