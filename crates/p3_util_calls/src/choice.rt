@@ -19,7 +19,8 @@
 //! | 4 or 8 bytes | high, by blocks of 4 by 4. On aarch64, by blocks of 8 by 8 | a register holds a row of 4, or half a row. See [`side_of`] |
 //! | 1 KiB and more | of 16 rows, column after column, each item by a function of its own | in a build without optimization, other functions would have copies of it on the stack |
 //! | 12 bytes and more but 16: `FAR_ITEM`, `VECTOR`, in a list of more than 512 KiB: `FAR_LIST` | low, column after column | see [`strips_of`] |
-//! | all others | low if 16 divides the width, otherwise high, column after column | see `Strips::by_width` |
+//! | 16 bytes, in such a list | low if 16 divides the width, otherwise high, column after column | see `Strips::by_width` |
+//! | all others | lowest if 16 divides the width, otherwise high, column after column. For 16 bytes, low if 8 divides it | see [`strips_of`] |
 //!
 //! Strips of items of 12 bytes and more have at most 512 columns, [`FAR_COLUMNS`], if the list has more than 512 KiB. The cells of
 //! the next strip begin in the lines in which those of this one end, which are then still in the second-level cache.
@@ -29,7 +30,7 @@
 
 ghost use Rattle.p3_util_kernels.specs.Region.{LiesInMatrix};
 
-use p3_util_kernels::kernel::{HIGH_ROWS, Matrix, RowBlocks, Strips, TINY_MATRIX};
+use p3_util_kernels::kernel::{HIGH_ROWS, Matrix, RowBlocks, Strips, TINY_MATRIX, UNIT};
 use p3_util_kernels::transpose::Region;
 
 /// An item of so many bytes is exchanged as a run of bytes, which takes hardly longer, and is put by a function of its own.
@@ -50,6 +51,9 @@ const FAR_ITEM: usize = 12;
 
 /// The bytes of a vector register. Far items that are as long take less time by high strips.
 const VECTOR: usize = 16;
+
+/// If the width of a matrix of items of 16 bytes is a multiple of this, its strips are low.
+const HALF_UNIT: usize = 8;
 
 /// The greatest number of columns of a strip of far items.
 pub(crate) const FAR_COLUMNS: usize = 512;
@@ -122,6 +126,10 @@ impl Limits {
 /// by `SIDE` items: `SIDE` is [`side_of`] these items. Others are low if the width says so, or if their list `is_far`. A strip is
 /// read column by column, so each of its rows is a stream of its own, and processors read ahead in few of them: in 32 at most.
 /// Items of 16 bytes take less time by high strips, whose columns are longer runs of cells.
+///
+/// In a list that is not far, most heights that come with such a width are multiples of 16, and the compiler knows how many rows
+/// a lowest strip has. Rows of 8 items of 16 bytes are as long as two cache lines, so their distances are multiples of a power of
+/// two, too.
 #[inline(always)]
 pub(crate) fn strips_of<const SIDE: usize>(
     size: usize,
@@ -130,10 +138,18 @@ pub(crate) fn strips_of<const SIDE: usize>(
 ) -> Strips<SIDE, HIGH_ROWS> {
     if SIDE > 1 {
         Strips::Squares
-    } else if is_far && size != VECTOR {
+    } else if is_far {
+        if size == VECTOR {
+            Strips::by_width(width)
+        } else {
+            Strips::Low
+        }
+    } else if width % UNIT == 0 {
+        Strips::Lowest
+    } else if size == VECTOR && width % HALF_UNIT == 0 {
         Strips::Low
     } else {
-        Strips::by_width(width)
+        Strips::High
     }
 }
 

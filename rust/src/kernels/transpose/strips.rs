@@ -28,6 +28,9 @@ pub(crate) const HIGH_ROWS: usize = 128;
 /// The greatest number of rows of a low strip.
 const LOW_ROWS: usize = 24;
 
+/// The greatest number of rows of a lowest strip.
+const LOWEST_ROWS: usize = 16;
+
 /// How a region is put in strips. Strips by squares have at most `ROWS` rows, and their squares have
 /// `SIDE` rows and columns. If `SIDE` is 1, these strips too are put column after column.
 #[derive(Clone, Copy)]
@@ -36,6 +39,8 @@ pub(crate) enum Strips<const SIDE: usize, const ROWS: usize> {
     High,
     /// Low strips, of at most 24 rows, column after column.
     Low,
+    /// Lowest strips, of at most 16 rows, column after column.
+    Lowest,
     /// Strips by squares. A holder may transpose squares in registers.
     Squares,
 }
@@ -89,8 +94,9 @@ impl<const SIDE: usize, const ROWS: usize> PutRegion for Strips<SIDE, ROWS> {
         let squares = Squares::<SIDE>;
         match self {
             Strips::High => InRows::<HIGH_ROWS, _, _>(apart, apart).put(out, matrix, region),
-            // Most low strips have `LOW_ROWS` rows. There the compiler knows that number.
-            Strips::Low => InRows::<LOW_ROWS, _, _>(Columns, Columns).put(out, matrix, region),
+            // Most low strips have `LOW_ROWS` rows, and most lowest ones `LOWEST_ROWS`. There the compiler knows that number.
+            Strips::Low => InRows::<LOW_ROWS, _, _>(Columns, apart).put(out, matrix, region),
+            Strips::Lowest => InRows::<LOWEST_ROWS, _, _>(Columns, apart).put(out, matrix, region),
             Strips::Squares => InRows::<ROWS, _, _>(squares, squares).put(out, matrix, region),
         }
     }
