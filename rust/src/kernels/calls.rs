@@ -5,11 +5,11 @@
 #[cfg(target_pointer_width = "32")]
 use crate::width::Index as usize;
 use crate::kernels::choice::{
-    FAR_COLUMNS, LONG_BYTES, Limits, SHORT_COLUMN, few_items_of, has_lines, is_far, row_blocks_of,
-    side_of, strips_of,
+    FAR_COLUMNS, LONG_BYTES, Limits, SHORT_COLUMN, STREAMED_ROWS, few_items_of, has_lines, is_far,
+    is_streamed, row_blocks_of, side_of, strips_of,
 };
 use crate::kernels::kernel::{
-    Blocks, Columns, InCols, InRows, LARGE_MATRIX, Matrix, Order, PutRegion, RowDigits,
+    Blocks, Columns, InCols, InRows, LARGE_MATRIX, Matrix, Order, Outlined, PutRegion, RowDigits,
     ShortColumns, UNIT, put_as_block, reverse_short,
 };
 use crate::kernels::places::{Cells, Places, Source};
@@ -43,10 +43,10 @@ pub(crate) trait Output: Cells {
     /// The side of the squares of items that the holder transposes in registers, or 1.
     const SIDE: usize = side_of(Self::SIZE, Self::HAS_REGISTERS, Self::IS_X86_64);
 
-    /// Whether the holder can store whole lines past the caches.
+    /// Whether the holder can store items past the caches.
     const HAS_LINES: bool = has_lines(Self::SIZE, Self::HAS_REGISTERS, Self::IS_X86_64);
 
-    /// From how many bytes on lines are put.
+    /// From how many bytes on items are put past the caches.
     fn limits() -> Limits {
         Limits::of_users()
     }
@@ -61,7 +61,7 @@ pub(crate) trait Output: Cells {
     where
         Self: Sized,;
 
-    /// Puts a region in this way. The holder may store whole lines past the caches until it returns.
+    /// Puts a region in this way. The holder may store whole lines, or items of 32 bytes and more, past the caches until it returns.
     fn put_past_caches<W: PutRegion, R: Source<Item = Self::Item> + Copy>(
         self,
         way: W,
@@ -161,7 +161,7 @@ fn transpose_apart<M: Output, R: Source<Item = M::Item> + Copy>(
     put_region(cells, matrix, whole, is_large)
 }
 
-/// Puts a region of a matrix. If it `is_large`, it is put by lines or by leaves.
+/// Puts a region of a matrix. If it `is_large`, and is not put past the caches, it is put by leaves.
 #[inline(always)]
 fn put_region<M: Output, R: Source<Item = M::Item> + Copy>(
     cells: M,
@@ -170,7 +170,8 @@ fn put_region<M: Output, R: Source<Item = M::Item> + Copy>(
     is_large: bool,
 ) -> M {
     let (size, width, height) = (M::SIZE, matrix.width, matrix.height);
-    if M::HAS_LINES && is_large && M::limits().fit(size, matrix, region, cells.address()) {
+    let may_be_large = is_large || is_streamed(size);
+    if M::HAS_LINES && may_be_large && M::limits().fit(size, matrix, region, cells.address()) {
         return put_by_lines(cells, matrix, region);
     }
     if M::IS_LONG {
@@ -198,7 +199,7 @@ fn put_region<M: Output, R: Source<Item = M::Item> + Copy>(
     }
 }
 
-/// The order of a region that is not put by lines.
+/// The order of a region that is not put past the caches.
 #[inline(always)]
 fn order_of<S: PutRegion>(is_large: bool, strips: S) -> Order<S> {
     if is_large {
@@ -208,7 +209,7 @@ fn order_of<S: PutRegion>(is_large: bool, strips: S) -> Order<S> {
     }
 }
 
-/// Puts a region by cache lines of the output, past the caches.
+/// Puts a region past the caches: by cache lines of the output, or in low strips.
 #[inline(never)]
 fn put_by_lines<M: Output, R: Source<Item = M::Item> + Copy>(
     cells: M,
@@ -221,7 +222,11 @@ fn put_by_lines<M: Output, R: Source<Item = M::Item> + Copy>(
             let lines = Lines::new(LINE / size, cells.address() % LINE / size);
             cells.put_past_caches(lines, matrix, region)
         }
-        _ => Columns.put(cells, matrix, region),
+        _ => {
+            let columns = Outlined(Columns);
+            let strips = InRows::<STREAMED_ROWS, _, _>(columns, columns);
+            cells.put_past_caches(strips, matrix, region)
+        }
     }
 }
 
