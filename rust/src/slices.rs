@@ -9,7 +9,7 @@
 //! On a system of 32 bits, `narrow.rs` has the holders: those of the kernels, which check each index too.
 
 use crate::kernels::calls;
-use crate::kernels::places::Places;
+use crate::kernels::kernel::Tiled;
 use crate::kernels::reverse::fits_rows;
 use crate::kernels::transpose::fits_matrix;
 use crate::width::Index;
@@ -31,13 +31,13 @@ use {super::slices as instances, calls::transpose_whole};
 
 /// Reverses the order of items by index bits.
 #[inline(never)]
-fn reverse(items: impl Places) {
+fn reverse(items: impl Tiled) {
     let _ = calls::reverse(items);
 }
 
 /// Reverses the order of rows by index bits. If this were inlined, a function that chooses would save registers before it does.
 #[inline(never)]
-fn reverse_rows(items: impl Places, row_width: Index) {
+fn reverse_rows(items: impl Tiled, row_width: Index) {
     let _ = calls::reverse_rows(items, row_width);
 }
 

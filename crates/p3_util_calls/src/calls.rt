@@ -14,10 +14,10 @@ use crate::choice::{
     is_streamed, row_blocks_of, side_of, strips_of,
 };
 use p3_util_kernels::kernel::{
-    Blocks, Columns, InCols, InRows, LARGE_MATRIX, Matrix, Order, Outlined, PutRegion, RowDigits,
-    ShortColumns, UNIT, put_as_block, reverse_short,
+    Ahead, Blocked, Blocks, Columns, InCols, InRows, LARGE_MATRIX, Matrix, Order, Outlined, PutRegion,
+    RowDigits, ShortColumns, Tiled, UNIT, put_as_block, reverse_short,
 };
-use p3_util_kernels::places::{Cells, Places, Source};
+use p3_util_kernels::places::{Cells, Source};
 use p3_util_kernels::transpose::Region;
 use p3_util_registers::lines::Lines;
 
@@ -26,7 +26,7 @@ const LINE: usize = 64;
 
 /// The cells of a call, and what the choice of a way depends on: first what a build has, and then what follows from it. Only the
 /// time depends on these constants.
-pub(crate) trait Output: Cells {
+pub(crate) trait Output: Blocked {
     /// The bytes of an item.
     const SIZE: usize;
 
@@ -62,7 +62,7 @@ pub(crate) trait Output: Cells {
     }
 
     /// Puts all items of a list of the same length, in the same order.
-    fn copy<R: Source<Item = Self::Item> + Copy>(self, source: R) -> Self
+    fn copy<R: Ahead<Item = Self::Item> + Copy>(self, source: R) -> Self
     where
         Self: Sized,
         requires { length (R.items source) ≡ length (Self.items self) }
@@ -70,7 +70,7 @@ pub(crate) trait Output: Cells {
         ensures holder { Self.same_holder (length (Self.items self)) self result };
 
     /// Puts a region in this way. The holder may store whole lines, or items of 32 bytes and more, past the caches until it returns.
-    fn put_past_caches<W: PutRegion, R: Source<Item = Self::Item> + Copy>(
+    fn put_past_caches<W: PutRegion, R: Ahead<Item = Self::Item> + Copy>(
         self,
         way: W,
         matrix: Matrix<R>,
@@ -90,7 +90,7 @@ pub(crate) trait Output: Cells {
 /// Transposes a matrix. A user's crate has this, and without debug assertions puts columns itself, since a call would take as
 /// long. The calls have single arguments and no matrix, so that all are in registers and need no room on the stack.
 #[inline(always)]
-pub(crate) fn transpose_whole<M: Output, R: Source<Item = M::Item> + Copy>(
+pub(crate) fn transpose_whole<M: Output, R: Ahead<Item = M::Item> + Copy>(
     cells: M,
     source: R,
     width: usize,
@@ -125,7 +125,7 @@ pub(crate) fn transpose_whole<M: Output, R: Source<Item = M::Item> + Copy>(
 
 /// Transposes a matrix of few items.
 #[inline(always)]
-fn transpose_tiny<M: Output, R: Source<Item = M::Item> + Copy>(
+fn transpose_tiny<M: Output, R: Ahead<Item = M::Item> + Copy>(
     cells: M,
     source: R,
     width: usize,
@@ -150,7 +150,7 @@ fn transpose_tiny<M: Output, R: Source<Item = M::Item> + Copy>(
 
 /// Does the same as [`transpose_tiny`]. With debug assertions, a user's crate is often not optimized, and the package may be.
 #[inline(never)]
-fn transpose_tiny_apart<M: Output, R: Source<Item = M::Item> + Copy>(
+fn transpose_tiny_apart<M: Output, R: Ahead<Item = M::Item> + Copy>(
     cells: M,
     source: R,
     width: usize,
@@ -167,7 +167,7 @@ fn transpose_tiny_apart<M: Output, R: Source<Item = M::Item> + Copy>(
 
 /// Transposes a matrix of one block, in the holder's own way. The side is a constant, and with it the distance of its rows.
 #[inline(never)]
-fn transpose_block<const SIDE: usize, M: Output, R: Source<Item = M::Item> + Copy>(
+fn transpose_block<const SIDE: usize, M: Output, R: Ahead<Item = M::Item> + Copy>(
     cells: M,
     source: R,
 ) -> M
@@ -185,7 +185,7 @@ fn transpose_block<const SIDE: usize, M: Output, R: Source<Item = M::Item> + Cop
 
 /// Transposes a matrix that is neither copied nor one block, and has many items or long ones.
 #[inline(never)]
-fn transpose_apart<M: Output, R: Source<Item = M::Item> + Copy>(
+fn transpose_apart<M: Output, R: Ahead<Item = M::Item> + Copy>(
     cells: M,
     source: R,
     width: usize,
@@ -204,7 +204,7 @@ fn transpose_apart<M: Output, R: Source<Item = M::Item> + Copy>(
 
 /// Puts a region of a matrix. If it `is_large`, and is not put past the caches, it is put by leaves.
 #[inline(always)]
-fn put_region<M: Output, R: Source<Item = M::Item> + Copy>(
+fn put_region<M: Output, R: Ahead<Item = M::Item> + Copy>(
     cells: M,
     matrix: Matrix<R>,
     region: Region,
@@ -257,7 +257,7 @@ fn order_of<S: PutRegion>(is_large: bool, strips: S) -> Order<S> {
 
 /// Puts a region past the caches: by cache lines of the output, or in low strips.
 #[inline(never)]
-fn put_by_lines<M: Output, R: Source<Item = M::Item> + Copy>(
+fn put_by_lines<M: Output, R: Ahead<Item = M::Item> + Copy>(
     cells: M,
     matrix: Matrix<R>,
     region: Region,
@@ -287,7 +287,7 @@ fn put_by_lines<M: Output, R: Source<Item = M::Item> + Copy>(
 struct LongColumns;
 
 impl PutRegion for LongColumns {
-    fn put<M: Cells, R: Source<Item = M::Item> + Copy>(
+    fn put<M: Blocked, R: Ahead<Item = M::Item> + Copy>(
         self,
         out: M,
         matrix: Matrix<R>,
@@ -349,7 +349,7 @@ fn put_item<M: Cells, R: Source<Item = M::Item> + Copy>(
 
 /// Puts a region of a matrix. One that is the whole matrix is put as a whole call.
 #[inline(always)]
-pub(crate) fn transpose_region<M: Output, R: Source<Item = M::Item> + Copy>(
+pub(crate) fn transpose_region<M: Output, R: Ahead<Item = M::Item> + Copy>(
     cells: M,
     matrix: Matrix<R>,
     region: Region,
@@ -368,7 +368,7 @@ pub(crate) fn transpose_region<M: Output, R: Source<Item = M::Item> + Copy>(
 
 /// Reverses the order of items by index bits.
 #[inline(always)]
-pub(crate) fn reverse<M: Places>(items: M) -> M
+pub(crate) fn reverse<M: Tiled>(items: M) -> M
     requires { IsReversible (length (M.items items)) }
     ensures order { IsReversal (M.items items) (M.items result) }
     ensures holder { M.same_holder (short_swaps (clog (length (M.items items)))) items result }
@@ -378,7 +378,7 @@ pub(crate) fn reverse<M: Places>(items: M) -> M
 
 /// Reverses the order of rows of `row_width` items by index bits.
 #[inline(always)]
-pub(crate) fn reverse_rows<M: Places>(items: M, row_width: usize) -> M
+pub(crate) fn reverse_rows<M: Tiled>(items: M, row_width: usize) -> M
     requires { FitsRows (length (M.items items)) row_width }
     ensures order { IsRowReversal row_width (M.items items) (M.items result) }
     ensures holder { M.same_holder (row_swaps (length (M.items items)) row_width) items result }

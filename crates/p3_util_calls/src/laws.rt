@@ -18,7 +18,8 @@ ghost use Rattle.p3_util_parts.specs.Plans.{IsReversalPlan, width_of};
 use crate::calls::Output;
 use crate::choice::Limits;
 use crate::part::{reverse_part, transpose_part};
-use p3_util_kernels::places::{Cells, Places, Source};
+use p3_util_kernels::kernel::{Ahead, Tiled};
+use p3_util_kernels::places::{Cells, Places};
 use p3_util_parts::parts::laws::{ExchangeSteps, PutSteps};
 use p3_util_parts::parts::numbers::PartsLeft;
 use p3_util_parts::parts::{Part, ReversalPlan, TransposePlan};
@@ -43,7 +44,7 @@ impl<C: Output> Output for PutSteps<C> {
         self.cells.address()
     }
 
-    fn copy<R: Source<Item = C::Item> + Copy>(self, source: R) -> Self {
+    fn copy<R: Ahead<Item = C::Item> + Copy>(self, source: R) -> Self {
         let mut copied = self;
         let len = source.len();
         let mut i = 0;
@@ -56,7 +57,7 @@ impl<C: Output> Output for PutSteps<C> {
 }
 
 /// Each part of a transpose has steps, in any order: some puts that put its region, one for each item of the region.
-pub(crate) fn puts_of_part<C: Output, R: Source<Item = C::Item> + Copy>(
+pub(crate) fn puts_of_part<C: Output, R: Ahead<Item = C::Item> + Copy>(
     cells: C,
     source: R,
     part: Part<TransposePlan>,
@@ -81,7 +82,7 @@ pub(crate) fn exchanges_of_part<M: Places>(items: M, part: Part<ReversalPlan>) -
 
 /// Puts each part that is handed out, as one thread may do. In any holder, whatever it says of itself, this is the transpose, by
 /// as many puts as there are items.
-pub(crate) fn put_parts<M: Output, R: Source<Item = M::Item> + Copy>(
+pub(crate) fn put_parts<M: Output, R: Ahead<Item = M::Item> + Copy>(
     cells: M,
     source: R,
     plan: TransposePlan,
@@ -101,7 +102,7 @@ pub(crate) fn put_parts<M: Output, R: Source<Item = M::Item> + Copy>(
 
 /// Makes each part of a reversal that is handed out, as one thread may do. In any holder this is the reversal, by as many
 /// exchanges as the reversal that is not cut.
-pub(crate) fn reverse_parts<M: Places>(items: M, plan: ReversalPlan) -> M
+pub(crate) fn reverse_parts<M: Tiled>(items: M, plan: ReversalPlan) -> M
     requires plan { IsReversalPlan (length (M.items items)) plan }
     requires len_fits { length (M.items items) < 2 ^ 64 }
     ensures reversed { IsRowReversal (width_of plan) (M.items items) (M.items result) }

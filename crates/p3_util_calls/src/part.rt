@@ -6,12 +6,12 @@ ghost use Rattle.p3_util_parts.specs.Interleaved.{region_of};
 ghost use Rattle.p3_util_parts.specs.Plans.{IsPartMade, IsReversalPlan};
 
 use crate::calls::{Output, reverse_rows, transpose_region};
-use p3_util_kernels::places::{Places, Source};
+use p3_util_kernels::kernel::{Ahead, Tiled};
 use p3_util_parts::parts::{Part, ReversalPlan, TransposePlan};
 
 /// Puts the region of a part.
 #[inline(never)]
-pub(crate) fn transpose_part<M: Output, R: Source<Item = M::Item> + Copy>(
+pub(crate) fn transpose_part<M: Output, R: Ahead<Item = M::Item> + Copy>(
     cells: M,
     source: R,
     part: Part<TransposePlan>,
@@ -28,7 +28,7 @@ pub(crate) fn transpose_part<M: Output, R: Source<Item = M::Item> + Copy>(
 }
 
 /// Makes the exchanges of a part.
-pub(crate) fn reverse_part<M: Places>(items: M, part: Part<ReversalPlan>) -> M
+pub(crate) fn reverse_part<M: Tiled>(items: M, part: Part<ReversalPlan>) -> M
     requires plan { IsReversalPlan (length (M.items items)) part.plan }
     requires len_fits { length (M.items items) < 2 ^ 64 }
     ensures { IsPartMade part.plan part.number (M.items items) (M.items result)

@@ -2,7 +2,7 @@
 -- Source: new.
 use Rattle.std.specs.Prelude.{ℕ, ◌≡◌, ◌≢◌, ◌+◌, ◌*◌, ◌<◌, ◌≤◌, List, [], ◌∷◌, take, drop, length, slice_get}
 use Rattle.std.specs.Borrow.{Bor}
-use Rattle.p3_util_kernels.specs.declared.places.Block.{Block}
+use Rattle.p3_util_kernels.specs.declared.places.bulk.Block.{Block}
 
 -- the number of items of the block
 abbrev pub block_items : Block → ℕ

@@ -22,7 +22,7 @@ ghost use Rattle.p3_util_kernels.specs.Region.{cols_of, items_of};
 ghost use Rattle.p3_util_kernels.specs.SwapCounts.{square_swaps};
 
 use crate::bits::{pow2, reverse_bits_len};
-use crate::places::Places;
+use crate::places::bulk::Tiled;
 use crate::transpose::Region;
 
 /// The number of rows and of columns of a tile.
@@ -129,7 +129,7 @@ impl Grid {
 
 /// Exchanges the runs of `width` items with the indices `i` and `j`.
 #[inline(always)]
-fn exchange_places<M: Places>(m: M, width: usize, i: usize, j: usize) -> M
+fn exchange_places<M: Tiled>(m: M, width: usize, i: usize, j: usize) -> M
     requires apart { i ≢ j }
     requires first { i * width + width ≤ length (M.items m) }
     requires second { j * width + width ≤ length (M.items m) }
@@ -149,7 +149,7 @@ fn exchange_places<M: Places>(m: M, width: usize, i: usize, j: usize) -> M
 /// Exchanges places of row `row` with their mirror images. These are the places in the columns of
 /// `region`, which are to the right of the diagonal.
 #[inline(always)]
-fn exchange_row<M: Places>(m: M, grid: Grid, row: usize, region: Region) -> M
+fn exchange_row<M: Tiled>(m: M, grid: Grid, row: usize, region: Region) -> M
     requires cols_in_order { region.col_start ≤ region.col_end }
     requires above { row < region.col_start }
     requires within { region.col_end ≤ 2 ^ grid.digits }
@@ -168,7 +168,7 @@ fn exchange_row<M: Places>(m: M, grid: Grid, row: usize, region: Region) -> M
 
 /// Exchanges the tiles of a region that lie in the 8 columns from `col` on with their mirror images.
 #[inline(always)]
-fn exchange_tile_column<M: Places>(m: M, grid: Grid, col: usize, region: Region) -> M
+fn exchange_tile_column<M: Tiled>(m: M, grid: Grid, col: usize, region: Region) -> M
     requires one { grid.width ≡ 1 }
     requires rows_in_order { region.row_start ≤ region.row_end }
     requires whole_start { region.row_start % 8 ≡ 0 }
@@ -200,7 +200,7 @@ fn exchange_tile_column<M: Places>(m: M, grid: Grid, col: usize, region: Region)
 
 /// Exchanges a region above the diagonal with its mirror image, tile by tile.
 #[inline(always)]
-fn exchange_leaf_tiles<M: Places>(m: M, grid: Grid, region: Region) -> M
+fn exchange_leaf_tiles<M: Tiled>(m: M, grid: Grid, region: Region) -> M
     requires one { grid.width ≡ 1 }
     requires rows_in_order { region.row_start ≤ region.row_end }
     requires cols_in_order { region.col_start ≤ region.col_end }
@@ -224,7 +224,7 @@ fn exchange_leaf_tiles<M: Places>(m: M, grid: Grid, region: Region) -> M
 /// Exchanges a region above the diagonal with its mirror image, without cutting the region: tile by
 /// tile if the region consists of tiles, and otherwise row after row.
 #[inline(always)]
-fn exchange_leaf<M: Places>(m: M, grid: Grid, region: Region) -> M
+fn exchange_leaf<M: Tiled>(m: M, grid: Grid, region: Region) -> M
     requires rows_in_order { region.row_start ≤ region.row_end }
     requires cols_in_order { region.col_start ≤ region.col_end }
     requires above { region.row_end ≤ region.col_start }
@@ -249,7 +249,7 @@ fn exchange_leaf<M: Places>(m: M, grid: Grid, region: Region) -> M
 /// in half at its longer side. The calls nest at most as deep as the sides can be halved until
 /// neither is longer than `LEAF`. The proof that the calls end counts these levels.
 #[doc(hidden)]
-pub fn exchange_region<M: Places>(m: M, grid: Grid, region: Region) -> M
+pub fn exchange_region<M: Tiled>(m: M, grid: Grid, region: Region) -> M
     requires rows_in_order { region.row_start ≤ region.row_end }
     requires cols_in_order { region.col_start ≤ region.col_end }
     requires above { region.row_end ≤ region.col_start }
@@ -289,7 +289,7 @@ fn upper_half(size: usize) -> usize
 /// `grid`: the one with the `size` rows and the `size` columns from `start` on. This is done row
 /// after row.
 #[inline(always)]
-fn exchange_on_diagonal<M: Places>(m: M, grid: Grid, start: usize, size: usize) -> M
+fn exchange_on_diagonal<M: Tiled>(m: M, grid: Grid, start: usize, size: usize) -> M
     requires within { start + size ≤ 2 ^ grid.digits }
     requires ready { HoldsGrid grid (M.items m) }
     ensures exchanged { SwapsInGrid grid (square_at start size) (M.items m) (M.items result) }
@@ -311,7 +311,7 @@ fn exchange_on_diagonal<M: Places>(m: M, grid: Grid, start: usize, size: usize) 
 
 /// Does the same as [`exchange_on_diagonal`], for a tile.
 #[inline(always)]
-fn exchange_diagonal_tile<M: Places>(m: M, grid: Grid, start: usize) -> M
+fn exchange_diagonal_tile<M: Tiled>(m: M, grid: Grid, start: usize) -> M
     requires whole { start % 8 ≡ 0 }
     requires within { start + 8 ≤ 2 ^ grid.digits }
     requires ready { HoldsGrid grid (M.items m) }
@@ -335,7 +335,7 @@ fn exchange_diagonal_tile<M: Places>(m: M, grid: Grid, start: usize) -> M
 /// Does the same as [`exchange_on_diagonal`], by quadrants. The calls nest at most as deep as `size` can
 /// be halved until it is at most 8. The proof that the calls end counts these levels.
 #[doc(hidden)]
-pub fn exchange_quadrants<M: Places>(m: M, grid: Grid, start: usize, size: usize) -> M
+pub fn exchange_quadrants<M: Tiled>(m: M, grid: Grid, start: usize, size: usize) -> M
     requires within { start + size ≤ 2 ^ grid.digits }
     requires ready { HoldsGrid grid (M.items m) }
     ensures exchanged { SwapsInGrid grid (square_at start size) (M.items m) (M.items result) }
@@ -363,7 +363,7 @@ pub fn exchange_quadrants<M: Places>(m: M, grid: Grid, start: usize, size: usize
 /// or row by row. Row by row, the compiler unrolls the exchanges if it knows that the grid has two or
 /// four rows.
 #[inline(always)]
-pub(crate) fn exchange_square<M: Places>(m: M, grid: Grid, row_by_row: bool) -> M
+pub(crate) fn exchange_square<M: Tiled>(m: M, grid: Grid, row_by_row: bool) -> M
     requires { HoldsGrid grid (M.items m) }
     ensures exchanged { SwapsInGrid grid (square_at 0 (2 ^ grid.digits))
         (M.items m) (M.items result) }

@@ -6,6 +6,8 @@ pub use crate::bits::pow2;
 #[doc(hidden)]
 pub use crate::grid::{TILE, exchange_quadrants, exchange_region};
 #[doc(hidden)]
+pub use crate::places::bulk::{Ahead, Block, Blocked, Tiled};
+#[doc(hidden)]
 pub use crate::reverse::rows::{RowDigits, reverse_rows, reverse_short};
 #[doc(hidden)]
 pub use crate::transpose::order::{LARGE_MATRIX, Order, TINY_MATRIX};

@@ -26,6 +26,7 @@ ghost use Rattle.p3_util_kernels.specs.SwapCounts.{long_swaps, reversal_swaps, r
 mod long;
 pub(crate) mod rows;
 
+use crate::places::bulk::Tiled;
 use crate::places::{Places, SlicePlaces, Swaps};
 use long::reverse_long;
 use rows::reverse_chunks;
@@ -218,7 +219,7 @@ fn reverse_rows_of_items<F>(vals: &mut [F], row_width: usize) -> &mut [F]
 
 /// The kernel of [`reverse_index_bits_on`].
 #[inline(always)]
-pub(crate) fn reverse_index_bits<M: Places>(m: M) -> M
+pub(crate) fn reverse_index_bits<M: Tiled>(m: M) -> M
     requires { IsReversible (length (M.items m)) }
     ensures order { IsReversal (M.items m) (M.items result) }
     ensures holder { M.same_holder (reversal_swaps (length (M.items m))) m result }

@@ -34,7 +34,8 @@ mod square;
 pub(crate) mod strips;
 pub(crate) mod ways;
 
-use crate::places::{Cells, SliceCells, SliceSource, Source};
+use crate::places::bulk::{Ahead, Blocked};
+use crate::places::{SliceCells, SliceSource};
 pub use butterfly::{butterfly_4x4, butterfly_stage1, butterfly_stage2};
 pub use counted::{
     fits_square, transpose_on, transpose_region_on, transpose_source_on, transpose_source_split_on,
@@ -85,7 +86,7 @@ pub fn transpose<T: Copy>(input: &[T], output: &mut [T], width: usize, height: u
 /// cells it puts and which stay.
 #[tactic(auto, using(crate::proofs::TransposeLemmas::Region::region_put))]
 #[inline(always)]
-fn put_region<M: Cells, R: Source<Item = M::Item> + Copy>(
+fn put_region<M: Blocked, R: Ahead<Item = M::Item> + Copy>(
     out: M,
     matrix: Matrix<R>,
     region: Region,
@@ -115,7 +116,7 @@ fn put_region<M: Cells, R: Source<Item = M::Item> + Copy>(
 /// contract is about the slice that is returned, and says by `ghost_name` that this is the slice
 /// `output`.
 #[inline(always)]
-fn transpose_items<T: Copy, R: Source<Item = T> + Copy>(
+fn transpose_items<T: Copy, R: Ahead<Item = T> + Copy>(
     matrix: Matrix<R>,
     output: &mut [T],
 ) -> &mut [T]
@@ -133,7 +134,7 @@ fn transpose_items<T: Copy, R: Source<Item = T> + Copy>(
 /// that this one calls. Behind a reference, the address of the items would be read from memory
 /// again for each item.
 #[inline(always)]
-fn transpose_by_shape<M: Cells, R: Source<Item = M::Item> + Copy>(out: M, matrix: Matrix<R>) -> M
+fn transpose_by_shape<M: Blocked, R: Ahead<Item = M::Item> + Copy>(out: M, matrix: Matrix<R>) -> M
     requires input_fits { length (R.items matrix.source) ≡ matrix.width * matrix.height }
     requires output_fits { length (M.items out) ≡ matrix.width * matrix.height }
     ensures order { IsTranspose matrix.width matrix.height (R.items matrix.source)
@@ -152,7 +153,7 @@ fn transpose_by_shape<M: Cells, R: Source<Item = M::Item> + Copy>(out: M, matrix
 /// Does the same as [`transpose_by_shape`], in the order for a matrix that is not tiny. It is not
 /// inlined, so that calls for tiny matrices stay short.
 #[inline(never)]
-fn transpose_outlined<M: Cells, R: Source<Item = M::Item> + Copy>(out: M, matrix: Matrix<R>) -> M
+fn transpose_outlined<M: Blocked, R: Ahead<Item = M::Item> + Copy>(out: M, matrix: Matrix<R>) -> M
     requires input_fits { length (R.items matrix.source) ≡ matrix.width * matrix.height }
     requires output_fits { length (M.items out) ≡ matrix.width * matrix.height }
     ensures order { IsTranspose matrix.width matrix.height (R.items matrix.source)
@@ -164,7 +165,7 @@ fn transpose_outlined<M: Cells, R: Source<Item = M::Item> + Copy>(out: M, matrix
 
 /// Transposes a matrix in the given order.
 #[inline(always)]
-pub(crate) fn transpose_matrix<M: Cells, R: Source<Item = M::Item> + Copy, O: PutRegion>(
+pub(crate) fn transpose_matrix<M: Blocked, R: Ahead<Item = M::Item> + Copy, O: PutRegion>(
     out: M,
     matrix: Matrix<R>,
     order: O,

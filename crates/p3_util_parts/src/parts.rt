@@ -32,8 +32,7 @@ pub use asked::{one_part_items, ranges_if_cut};
 pub use lists::{PartToRun, PartsToRun, Shared};
 #[doc(hidden)]
 pub use numbers::Part;
-use p3_util_kernels::kernel::{RowDigits, TILE, exchange_quadrants, exchange_region, pow2};
-use p3_util_kernels::places::Places;
+use p3_util_kernels::kernel::{RowDigits, TILE, Tiled, exchange_quadrants, exchange_region, pow2};
 use p3_util_kernels::transpose::Region;
 #[doc(hidden)]
 pub use reversal::ReversalPlan;
@@ -173,7 +172,7 @@ impl RowPairs {
     }
 
     /// Exchanges the two rows of each pair in patch `number`.
-    pub(crate) fn exchange_patch<M: Places>(self, m: M, number: usize) -> M
+    pub(crate) fn exchange_patch<M: Tiled>(self, m: M, number: usize) -> M
         requires below { number < patches_of self.rows.digits self.cut.part_len }
         requires ready { HoldsRows self.rows.width self.rows.digits (M.items m) }
         ensures { IsPatchExchanged self.rows.digits self.rows.width self.cut.part_len number

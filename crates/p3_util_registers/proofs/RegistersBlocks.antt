@@ -2,7 +2,7 @@
 use Rattle.std.proofs.Common.{◌≡◌, ◌≢◌, ℕ, ◌+◌, ◌-◌, ◌*◌, ◌%◌, ◌<◌, ◌≤◌, ◌⊎◌, List, slice_index, inl, inr, ◌∙◌, arith}
 use Rattle.std.proofs.Math.Nat.{lt_of_mul-lt-mul_left, mul-le-mul_right}
 use Rattle.std.proofs.lemmas.Bool.{cases_lt}
-use Rattle.p3_util_kernels.specs.declared.places.Block.{Block}
+use Rattle.p3_util_kernels.specs.declared.places.bulk.Block.{Block}
 use Rattle.p3_util_kernels.specs.BlockPut.{BlockFits, IsBlockPut}
 use Rattle.p3_util_registers.specs.Registers.{AreDisjoint, AreColumns, AreStored, ColumnsPut, IsSide}
 use Rattle.p3_util_kernels.proofs.PlacesLemmas.Blocks.{in_block}

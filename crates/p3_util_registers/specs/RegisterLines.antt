@@ -1,6 +1,6 @@
 -- Columns of 8 rows in registers. It serves private contracts.
 use Rattle.std.specs.Prelude.{◌≡◌, ℕ, ◌+◌, ◌*◌, ◌/◌, ◌%◌, ◌<◌, ◌≤◌, ◌⊎◌, List, slice_get}
-use Rattle.p3_util_kernels.specs.declared.places.Block.{Block}
+use Rattle.p3_util_kernels.specs.declared.places.bulk.Block.{Block}
 use Rattle.p3_util_kernels.specs.Stages.{item_at}
 
 -- Four registers hold the columns of 8 rows, one column after another. The rows have `side` items each,

@@ -2,7 +2,7 @@
 -- Source: new.
 use Rattle.std.specs.Prelude.{ℕ, ◌≡◌, ◌≢◌, ◌+◌, ◌-◌, ◌*◌, ◌/◌, ◌%◌, ◌<◌, ◌≤◌, ◌⊎◌, List, [], ◌∷◌, length, slice_get, slice_index}
 use Rattle.p3_util_kernels.specs.Stages.{item_at}
-use Rattle.p3_util_kernels.specs.declared.places.Block.{Block}
+use Rattle.p3_util_kernels.specs.declared.places.bulk.Block.{Block}
 use Rattle.p3_util_registers.specs.declared.registers.Four.{Four}
 
 -- The first items of c are, in turn, n items of `a` from place i on and n items of `b` from place j

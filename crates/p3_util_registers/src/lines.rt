@@ -9,8 +9,9 @@ ghost use Rattle.std.specs.Prelude.{◌≡◌, ℕ, ◌+◌, ◌^◌, ◌<◌, �
 ghost use Rattle.p3_util_registers.specs.Lines.{IsPutTo, cells_before, items_to, limit};
 ghost use Rattle.p3_util_kernels.specs.Region.{IsReady, IsRegionTransposed, items_of, rows_of};
 
-use p3_util_kernels::kernel::{Columns, InCols, Matrix, Outlined, PutRegion, put_as_block};
-use p3_util_kernels::places::{Cells, Source};
+use p3_util_kernels::kernel::{
+    Ahead, Blocked, Columns, InCols, Matrix, Outlined, PutRegion, put_as_block,
+};
 use p3_util_kernels::transpose::Region;
 
 /// Lines are put in so many columns at a time. The memory pages that these columns are on are few
@@ -81,7 +82,7 @@ impl Lines {
     /// A holder that puts one block cannot ask for these rows by itself: it does not see in which rows the lines of the
     /// neighbouring columns begin.
     #[inline(always)]
-    fn expect_rows<R: Source + Copy>(
+    fn expect_rows<R: Ahead + Copy>(
         self,
         matrix: Matrix<R>,
         region: Region,
@@ -103,7 +104,7 @@ impl Lines {
 
     /// Tells the source that one of the rows from `row` on may be read soon. Column `x` asks for its item of another row.
     #[inline(always)]
-    fn expect_row<R: Source + Copy>(self, matrix: Matrix<R>, region: Region, row: usize, x: usize) {
+    fn expect_row<R: Ahead + Copy>(self, matrix: Matrix<R>, region: Region, row: usize, x: usize) {
         let below = x.wrapping_sub(region.col_start) & (self.cells - 1);
         let right = x.wrapping_sub(below).wrapping_add(self.cells);
         let down = row.wrapping_add(below).wrapping_mul(matrix.width);
@@ -113,7 +114,7 @@ impl Lines {
 
 impl PutRegion for Lines {
     #[inline(always)]
-    fn put<M: Cells, R: Source<Item = M::Item> + Copy>(
+    fn put<M: Blocked, R: Ahead<Item = M::Item> + Copy>(
         self,
         out: M,
         matrix: Matrix<R>,
@@ -132,7 +133,7 @@ struct Panel(Lines);
 
 impl PutRegion for Panel {
     #[inline(never)]
-    fn put<M: Cells, R: Source<Item = M::Item> + Copy>(
+    fn put<M: Blocked, R: Ahead<Item = M::Item> + Copy>(
         self,
         out: M,
         matrix: Matrix<R>,
@@ -173,7 +174,7 @@ impl PutRegion for Panel {
 /// Puts a row of lines that are whole in every column. Each column is put as far as `done` rows after the line of its first
 /// cell begins, and is put one line further.
 #[inline(never)]
-fn put_row<M: Cells, R: Source<Item = M::Item> + Copy>(
+fn put_row<M: Blocked, R: Ahead<Item = M::Item> + Copy>(
     out: M,
     matrix: Matrix<R>,
     region: Region,

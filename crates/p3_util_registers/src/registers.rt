@@ -23,7 +23,7 @@
 //! bit of the column number: after two stages of either, the two numbers are exchanged.
 //!
 //! [`exchange_tiles`] and [`turn_tile`] leave the list that the methods of these names in
-//! [`places`](p3_util_kernels::places) leave, and [`put_by_squares`] leaves that of `Cells::put_block`. A holder's own methods
+//! [`places`](p3_util_kernels::places) leave, and [`put_by_squares`] leaves that of `Blocked::put_block`. A holder's own methods
 //! may call them.
 
 ghost use Rattle.std.specs.Prelude.{◌≡◌, ℕ, ◌+◌, ◌-◌, ◌*◌, ◌/◌, ◌%◌, ◌^◌, ◌<◌, ◌≤◌, ◌⊎◌, List, [], ◌∷◌, ◌++◌, length, refl, slice_get, slice_index};
@@ -36,7 +36,7 @@ pub(crate) mod blocks;
 pub(crate) mod line_blocks;
 pub(crate) mod tiles;
 
-use p3_util_kernels::places::Block;
+use p3_util_kernels::kernel::Block;
 
 /// Some items, one after another, as many for each register of a type.
 pub(crate) trait Register<T>: Copy {
@@ -371,7 +371,7 @@ fn exchange_band<T, D: Register<T>, M: Runs<T, D>>(
     store(list, 8, in_x, to_x);
 }
 
-/// Does what `Places::exchange_tiles` does, by squares of `D::SIDE` rows.
+/// Does what `Tiled::exchange_tiles` does, by squares of `D::SIDE` rows.
 #[inline(always)]
 pub(crate) fn exchange_tiles<T, D: Register<T>, M: Runs<T, D>>(
     list: &mut M,
@@ -450,7 +450,7 @@ fn turn_squares<T, D: Register<T>, M: Runs<T, D>>(list: &mut M, x: [usize; 8], s
     store(list, 8, in_rows(x, side, tops), columns);
 }
 
-/// Does what `Places::turn_tile` does, by squares of `D::SIDE` rows.
+/// Does what `Tiled::turn_tile` does, by squares of `D::SIDE` rows.
 #[inline(always)]
 pub(crate) fn turn_tile<T, D: Register<T>, M: Runs<T, D>>(list: &mut M, x: [usize; 8])
     requires some_side { IsSide D.SIDE }
@@ -615,7 +615,7 @@ fn put_twice<T, D: Register<T>, S: Runs<T, D>, M: Runs<T, D>>(
     store_columns(cells, side, block.rows, in_band(to, side, next), right);
 }
 
-/// Does what `Cells::put_block` does, by squares of `D::SIDE` rows.
+/// Does what `Blocked::put_block` does, by squares of `D::SIDE` rows.
 #[inline(always)]
 pub(crate) fn put_by_squares<T, D: Register<T>, S: Runs<T, D>, M: Runs<T, D>>(
     cells: &mut M,

@@ -5,14 +5,14 @@
 #[cfg(target_pointer_width = "32")]
 use crate::width::Index as usize;
 use crate::kernels::choice::{
-    FAR_COLUMNS, LONG_BYTES, Limits, SHORT_COLUMN, STREAMED_ROWS, few_items_of, has_lines, is_far,
-    is_streamed, row_blocks_of, side_of, strips_of,
+    FAR_COLUMNS, LONG_BYTES, Limits, SHORT_COLUMN, few_items_of, has_lines, is_far, row_blocks_of,
+    side_of, strips_of,
 };
 use crate::kernels::kernel::{
-    Blocks, Columns, InCols, InRows, LARGE_MATRIX, Matrix, Order, Outlined, PutRegion, RowDigits,
-    ShortColumns, UNIT, put_as_block, reverse_short,
+    Ahead, Blocked, Blocks, Columns, InCols, InRows, LARGE_MATRIX, Matrix, Order, PutRegion,
+    RowDigits, ShortColumns, Tiled, UNIT, put_as_block, reverse_short,
 };
-use crate::kernels::places::{Cells, Places, Source};
+use crate::kernels::places::{Cells, Source};
 use crate::kernels::transpose::Region;
 use crate::kernels::lines::Lines;
 
@@ -21,7 +21,7 @@ const LINE: usize = 64;
 
 /// The cells of a call, and what the choice of a way depends on: first what a build has, and then what follows from it. Only the
 /// time depends on these constants.
-pub(crate) trait Output: Cells {
+pub(crate) trait Output: Blocked {
     /// The bytes of an item.
     const SIZE: usize;
 
@@ -43,10 +43,10 @@ pub(crate) trait Output: Cells {
     /// The side of the squares of items that the holder transposes in registers, or 1.
     const SIDE: usize = side_of(Self::SIZE, Self::HAS_REGISTERS, Self::IS_X86_64);
 
-    /// Whether the holder can store items past the caches.
+    /// Whether the holder can store whole lines past the caches.
     const HAS_LINES: bool = has_lines(Self::SIZE, Self::HAS_REGISTERS, Self::IS_X86_64);
 
-    /// From how many bytes on items are put past the caches.
+    /// From how many bytes on lines are put.
     fn limits() -> Limits {
         Limits::of_users()
     }
@@ -57,12 +57,29 @@ pub(crate) trait Output: Cells {
     }
 
     /// Puts all items of a list of the same length, in the same order.
-    fn copy<R: Source<Item = Self::Item> + Copy>(self, source: R) -> Self
+    ///
+    /// # Contract
+    ///
+    /// ```text
+    /// requires { length (R.items source) ≡ length (Self.items self) }
+    /// ensures copied { Self.items result ≡ R.items source }
+    /// ensures holder { Self.same_holder (length (Self.items self)) self result }
+    /// ```
+    fn copy<R: Ahead<Item = Self::Item> + Copy>(self, source: R) -> Self
     where
         Self: Sized,;
 
-    /// Puts a region in this way. The holder may store whole lines, or items of 32 bytes and more, past the caches until it returns.
-    fn put_past_caches<W: PutRegion, R: Source<Item = Self::Item> + Copy>(
+    /// Puts a region in this way. The holder may store whole lines past the caches until it returns.
+    ///
+    /// # Contract
+    ///
+    /// ```text
+    /// requires { IsReady region matrix.width matrix.height (R.items matrix.source) (Self.items self) }
+    /// ensures transposed { IsRegionTransposed region matrix.width matrix.height
+    ///     (R.items matrix.source) (Self.items self) (Self.items result) }
+    /// ensures holder { Self.same_holder (items_of region) self result }
+    /// ```
+    fn put_past_caches<W: PutRegion, R: Ahead<Item = Self::Item> + Copy>(
         self,
         way: W,
         matrix: Matrix<R>,
@@ -77,8 +94,17 @@ pub(crate) trait Output: Cells {
 
 /// Transposes a matrix. A user's crate has this, and without debug assertions puts columns itself, since a call would take as
 /// long. The calls have single arguments and no matrix, so that all are in registers and need no room on the stack.
+///
+/// # Contract
+///
+/// ```text
+/// requires input_fits { length (R.items source) ≡ width * height }
+/// requires output_fits { length (M.items cells) ≡ width * height }
+/// ensures order { IsTranspose width height (R.items source) (M.items result) }
+/// ensures holder { M.same_holder (width * height) cells result }
+/// ```
 #[inline(always)]
-pub(crate) fn transpose_whole<M: Output, R: Source<Item = M::Item> + Copy>(
+pub(crate) fn transpose_whole<M: Output, R: Ahead<Item = M::Item> + Copy>(
     cells: M,
     source: R,
     width: usize,
@@ -107,8 +133,18 @@ pub(crate) fn transpose_whole<M: Output, R: Source<Item = M::Item> + Copy>(
 }
 
 /// Transposes a matrix of few items.
+///
+/// # Contract
+///
+/// ```text
+/// requires input_fits { length (R.items source) ≡ width * height }
+/// requires output_fits { length (M.items cells) ≡ width * height }
+/// requires len_fits { length (R.items source) < 2 ^ 64 }
+/// ensures order { IsTranspose width height (R.items source) (M.items result) }
+/// ensures holder { M.same_holder (width * height) cells result }
+/// ```
 #[inline(always)]
-fn transpose_tiny<M: Output, R: Source<Item = M::Item> + Copy>(
+fn transpose_tiny<M: Output, R: Ahead<Item = M::Item> + Copy>(
     cells: M,
     source: R,
     width: usize,
@@ -126,8 +162,18 @@ fn transpose_tiny<M: Output, R: Source<Item = M::Item> + Copy>(
 }
 
 /// Does the same as [`transpose_tiny`]. With debug assertions, a user's crate is often not optimized, and the package may be.
+///
+/// # Contract
+///
+/// ```text
+/// requires input_fits { length (R.items source) ≡ width * height }
+/// requires output_fits { length (M.items cells) ≡ width * height }
+/// requires len_fits { length (R.items source) < 2 ^ 64 }
+/// ensures order { IsTranspose width height (R.items source) (M.items result) }
+/// ensures holder { M.same_holder (width * height) cells result }
+/// ```
 #[inline(never)]
-fn transpose_tiny_apart<M: Output, R: Source<Item = M::Item> + Copy>(
+fn transpose_tiny_apart<M: Output, R: Ahead<Item = M::Item> + Copy>(
     cells: M,
     source: R,
     width: usize,
@@ -137,8 +183,19 @@ fn transpose_tiny_apart<M: Output, R: Source<Item = M::Item> + Copy>(
 }
 
 /// Transposes a matrix of one block, in the holder's own way. The side is a constant, and with it the distance of its rows.
+///
+/// # Contract
+///
+/// ```text
+/// requires some { 0 < SIDE }
+/// requires input_fits { length (R.items source) ≡ SIDE * SIDE }
+/// requires output_fits { length (M.items cells) ≡ SIDE * SIDE }
+/// requires len_fits { length (R.items source) < 2 ^ 64 }
+/// ensures order { IsTranspose SIDE SIDE (R.items source) (M.items result) }
+/// ensures holder { M.same_holder (SIDE * SIDE) cells result }
+/// ```
 #[inline(never)]
-fn transpose_block<const SIDE: usize, M: Output, R: Source<Item = M::Item> + Copy>(
+fn transpose_block<const SIDE: usize, M: Output, R: Ahead<Item = M::Item> + Copy>(
     cells: M,
     source: R,
 ) -> M {
@@ -148,8 +205,17 @@ fn transpose_block<const SIDE: usize, M: Output, R: Source<Item = M::Item> + Cop
 }
 
 /// Transposes a matrix that is neither copied nor one block, and has many items or long ones.
+///
+/// # Contract
+///
+/// ```text
+/// requires input_fits { length (R.items source) ≡ width * height }
+/// requires output_fits { length (M.items cells) ≡ width * height }
+/// ensures order { IsTranspose width height (R.items source) (M.items result) }
+/// ensures holder { M.same_holder (width * height) cells result }
+/// ```
 #[inline(never)]
-fn transpose_apart<M: Output, R: Source<Item = M::Item> + Copy>(
+fn transpose_apart<M: Output, R: Ahead<Item = M::Item> + Copy>(
     cells: M,
     source: R,
     width: usize,
@@ -161,17 +227,25 @@ fn transpose_apart<M: Output, R: Source<Item = M::Item> + Copy>(
     put_region(cells, matrix, whole, is_large)
 }
 
-/// Puts a region of a matrix. If it `is_large`, and is not put past the caches, it is put by leaves.
+/// Puts a region of a matrix. If it `is_large`, it is put by lines or by leaves.
+///
+/// # Contract
+///
+/// ```text
+/// requires { IsReady region matrix.width matrix.height (R.items matrix.source) (M.items cells) }
+/// ensures transposed { IsRegionTransposed region matrix.width matrix.height
+///     (R.items matrix.source) (M.items cells) (M.items result) }
+/// ensures holder { M.same_holder (items_of region) cells result }
+/// ```
 #[inline(always)]
-fn put_region<M: Output, R: Source<Item = M::Item> + Copy>(
+fn put_region<M: Output, R: Ahead<Item = M::Item> + Copy>(
     cells: M,
     matrix: Matrix<R>,
     region: Region,
     is_large: bool,
 ) -> M {
     let (size, width, height) = (M::SIZE, matrix.width, matrix.height);
-    let may_be_large = is_large || is_streamed(size);
-    if M::HAS_LINES && may_be_large && M::limits().fit(size, matrix, region, cells.address()) {
+    if M::HAS_LINES && is_large && M::limits().fit(size, matrix, region, cells.address()) {
         return put_by_lines(cells, matrix, region);
     }
     if M::IS_LONG {
@@ -199,7 +273,7 @@ fn put_region<M: Output, R: Source<Item = M::Item> + Copy>(
     }
 }
 
-/// The order of a region that is not put past the caches.
+/// The order of a region that is not put by lines.
 #[inline(always)]
 fn order_of<S: PutRegion>(is_large: bool, strips: S) -> Order<S> {
     if is_large {
@@ -209,9 +283,18 @@ fn order_of<S: PutRegion>(is_large: bool, strips: S) -> Order<S> {
     }
 }
 
-/// Puts a region past the caches: by cache lines of the output, or in low strips.
+/// Puts a region by cache lines of the output, past the caches.
+///
+/// # Contract
+///
+/// ```text
+/// requires { IsReady region matrix.width matrix.height (R.items matrix.source) (M.items cells) }
+/// ensures transposed { IsRegionTransposed region matrix.width matrix.height
+///     (R.items matrix.source) (M.items cells) (M.items result) }
+/// ensures holder { M.same_holder (items_of region) cells result }
+/// ```
 #[inline(never)]
-fn put_by_lines<M: Output, R: Source<Item = M::Item> + Copy>(
+fn put_by_lines<M: Output, R: Ahead<Item = M::Item> + Copy>(
     cells: M,
     matrix: Matrix<R>,
     region: Region,
@@ -222,11 +305,7 @@ fn put_by_lines<M: Output, R: Source<Item = M::Item> + Copy>(
             let lines = Lines::new(LINE / size, cells.address() % LINE / size);
             cells.put_past_caches(lines, matrix, region)
         }
-        _ => {
-            let columns = Outlined(Columns);
-            let strips = InRows::<STREAMED_ROWS, _, _>(columns, columns);
-            cells.put_past_caches(strips, matrix, region)
-        }
+        _ => Columns.put(cells, matrix, region),
     }
 }
 
@@ -236,7 +315,7 @@ fn put_by_lines<M: Output, R: Source<Item = M::Item> + Copy>(
 struct LongColumns;
 
 impl PutRegion for LongColumns {
-    fn put<M: Cells, R: Source<Item = M::Item> + Copy>(
+    fn put<M: Blocked, R: Ahead<Item = M::Item> + Copy>(
         self,
         out: M,
         matrix: Matrix<R>,
@@ -257,6 +336,15 @@ impl PutRegion for LongColumns {
 }
 
 /// Puts a column of `rows` items into consecutive cells from `to` on. The column begins at index `from` of the source.
+///
+/// # Contract
+///
+/// ```text
+/// requires column { HoldsColumn rows from matrix.width to (R.items matrix.source) (M.items out) }
+/// ensures put { IsColumnPut rows from matrix.width to (R.items matrix.source) (M.items out)
+///     (M.items result) }
+/// ensures holder { M.same_holder rows out result }
+/// ```
 fn put_long_column<M: Cells, R: Source<Item = M::Item> + Copy>(
     out: M,
     matrix: Matrix<R>,
@@ -274,6 +362,17 @@ fn put_long_column<M: Cells, R: Source<Item = M::Item> + Copy>(
 }
 
 /// Puts the item at index `from` of a source into cell `to`.
+///
+/// # Contract
+///
+/// ```text
+/// requires from { from < length (R.items source) }
+/// requires to { to < length (M.items out.old) }
+/// ensures same_length { length (M.items out.new) ≡ length (M.items out.old) }
+/// ensures put { slice_get (M.items out.new) to ≡ slice_get (R.items source) from }
+/// ensures others { (p : ℕ) → p ≢ to → slice_get (M.items out.new) p ≡ slice_get (M.items out.old) p }
+/// ensures holder { M.same_holder 1 out.old out.new }
+/// ```
 #[inline(never)]
 fn put_item<M: Cells, R: Source<Item = M::Item> + Copy>(
     out: &mut M,
@@ -285,8 +384,17 @@ fn put_item<M: Cells, R: Source<Item = M::Item> + Copy>(
 }
 
 /// Puts a region of a matrix. One that is the whole matrix is put as a whole call.
+///
+/// # Contract
+///
+/// ```text
+/// requires { IsReady region matrix.width matrix.height (R.items matrix.source) (M.items cells) }
+/// ensures transposed { IsRegionTransposed region matrix.width matrix.height
+///     (R.items matrix.source) (M.items cells) (M.items result) }
+/// ensures holder { M.same_holder (items_of region) cells result }
+/// ```
 #[inline(always)]
-pub(crate) fn transpose_region<M: Output, R: Source<Item = M::Item> + Copy>(
+pub(crate) fn transpose_region<M: Output, R: Ahead<Item = M::Item> + Copy>(
     cells: M,
     matrix: Matrix<R>,
     region: Region,
@@ -299,14 +407,30 @@ pub(crate) fn transpose_region<M: Output, R: Source<Item = M::Item> + Copy>(
 }
 
 /// Reverses the order of items by index bits.
+///
+/// # Contract
+///
+/// ```text
+/// requires { IsReversible (length (M.items items)) }
+/// ensures order { IsReversal (M.items items) (M.items result) }
+/// ensures holder { M.same_holder (short_swaps (clog (length (M.items items)))) items result }
+/// ```
 #[inline(always)]
-pub(crate) fn reverse<M: Places>(items: M) -> M {
+pub(crate) fn reverse<M: Tiled>(items: M) -> M {
     reverse_short(items)
 }
 
 /// Reverses the order of rows of `row_width` items by index bits.
+///
+/// # Contract
+///
+/// ```text
+/// requires { FitsRows (length (M.items items)) row_width }
+/// ensures order { IsRowReversal row_width (M.items items) (M.items result) }
+/// ensures holder { M.same_holder (row_swaps (length (M.items items)) row_width) items result }
+/// ```
 #[inline(always)]
-pub(crate) fn reverse_rows<M: Places>(items: M, row_width: usize) -> M {
+pub(crate) fn reverse_rows<M: Tiled>(items: M, row_width: usize) -> M {
     let rows = RowDigits::of(items.len(), row_width);
     crate::kernels::kernel::reverse_rows(items, rows)
 }

@@ -8,8 +8,9 @@
 
 #[cfg(target_pointer_width = "32")]
 use crate::width::Index as usize;
-use crate::kernels::kernel::{Columns, InCols, Matrix, Outlined, PutRegion, put_as_block};
-use crate::kernels::places::{Cells, Source};
+use crate::kernels::kernel::{
+    Ahead, Blocked, Columns, InCols, Matrix, Outlined, PutRegion, put_as_block,
+};
 use crate::kernels::transpose::Region;
 
 /// Lines are put in so many columns at a time. The memory pages that these columns are on are few
@@ -65,7 +66,7 @@ impl Lines {
     /// A holder that puts one block cannot ask for these rows by itself: it does not see in which rows the lines of the
     /// neighbouring columns begin.
     #[inline(always)]
-    fn expect_rows<R: Source + Copy>(
+    fn expect_rows<R: Ahead + Copy>(
         self,
         matrix: Matrix<R>,
         region: Region,
@@ -84,7 +85,7 @@ impl Lines {
 
     /// Tells the source that one of the rows from `row` on may be read soon. Column `x` asks for its item of another row.
     #[inline(always)]
-    fn expect_row<R: Source + Copy>(self, matrix: Matrix<R>, region: Region, row: usize, x: usize) {
+    fn expect_row<R: Ahead + Copy>(self, matrix: Matrix<R>, region: Region, row: usize, x: usize) {
         let below = x.wrapping_sub(region.col_start) & (self.cells - 1);
         let right = x.wrapping_sub(below).wrapping_add(self.cells);
         let down = row.wrapping_add(below).wrapping_mul(matrix.width);
@@ -94,7 +95,7 @@ impl Lines {
 
 impl PutRegion for Lines {
     #[inline(always)]
-    fn put<M: Cells, R: Source<Item = M::Item> + Copy>(
+    fn put<M: Blocked, R: Ahead<Item = M::Item> + Copy>(
         self,
         out: M,
         matrix: Matrix<R>,
@@ -113,7 +114,7 @@ struct Panel(Lines);
 
 impl PutRegion for Panel {
     #[inline(never)]
-    fn put<M: Cells, R: Source<Item = M::Item> + Copy>(
+    fn put<M: Blocked, R: Ahead<Item = M::Item> + Copy>(
         self,
         out: M,
         matrix: Matrix<R>,
@@ -154,7 +155,7 @@ impl PutRegion for Panel {
 /// Puts a row of lines that are whole in every column. Each column is put as far as `done` rows after the line of its first
 /// cell begins, and is put one line further.
 #[inline(never)]
-fn put_row<M: Cells, R: Source<Item = M::Item> + Copy>(
+fn put_row<M: Blocked, R: Ahead<Item = M::Item> + Copy>(
     out: M,
     matrix: Matrix<R>,
     region: Region,

@@ -2,12 +2,23 @@
 //! What a part of a call does.
 
 use crate::kernels::calls::{Output, reverse_rows, transpose_region};
-use crate::kernels::places::{Places, Source};
+use crate::kernels::kernel::{Ahead, Tiled};
 use crate::kernels::parts::{Part, ReversalPlan, TransposePlan};
 
 /// Puts the region of a part.
+///
+/// # Contract
+///
+/// ```text
+/// requires input_fits { length (R.items source) ≡ part.plan.width * part.plan.height }
+/// requires output_fits { length (M.items cells) ≡ part.plan.width * part.plan.height }
+/// ensures transposed { let plan = part.plan in
+///     IsRegionTransposed (region_of plan part.number) plan.width plan.height
+///     (R.items source) (M.items cells) (M.items result) }
+/// ensures holder { M.same_holder (items_of (region_of part.plan part.number)) cells result }
+/// ```
 #[inline(never)]
-pub(crate) fn transpose_part<M: Output, R: Source<Item = M::Item> + Copy>(
+pub(crate) fn transpose_part<M: Output, R: Ahead<Item = M::Item> + Copy>(
     cells: M,
     source: R,
     part: Part<TransposePlan>,
@@ -17,7 +28,16 @@ pub(crate) fn transpose_part<M: Output, R: Source<Item = M::Item> + Copy>(
 }
 
 /// Makes the exchanges of a part.
-pub(crate) fn reverse_part<M: Places>(items: M, part: Part<ReversalPlan>) -> M {
+///
+/// # Contract
+///
+/// ```text
+/// requires plan { IsReversalPlan (length (M.items items)) part.plan }
+/// requires len_fits { length (M.items items) < 2 ^ 64 }
+/// ensures { IsPartMade part.plan part.number (M.items items) (M.items result)
+///     (λ n. M.same_holder n items result) }
+/// ```
+pub(crate) fn reverse_part<M: Tiled>(items: M, part: Part<ReversalPlan>) -> M {
     match part.patch() {
         Ok(patch) => patch.exchange(items),
         // In this arm, the compiler knows that a row is one item.

@@ -17,43 +17,27 @@
 //! - A *kernel* is the generic function that does the work of a call. It takes a holder by value,
 //!   changes the list and returns the holder.
 //!
-//! A kernel is generic over the traits below, and cannot reach the list in any other way. So its
-//! contract can give the exact number of steps that the holder makes. The kernel can neither leave
-//! out a step nor make an extra one.
+//! A kernel is generic over its holder, and cannot reach the list in any other way than by steps. So
+//! its contract can give the exact number of steps that the holder makes. The kernel can neither
+//! leave out a step nor make an extra one.
 //!
 //! A reference to a holder is a holder too. A call on a slice runs its kernel on a holder of that
-//! slice. A call whose name ends in `_on`, `_short` or `_long` is given a counter. It runs its
-//! kernel on a counter that continues from the given count.
+//! slice. A call whose name ends in `_counted` is given a reference to a holder. It runs its kernel
+//! on a new counter around that reference. A call whose name ends in `_on`, `_short` or `_long` is
+//! given a counter. It runs its kernel on a counter that continues from the given count.
 
 #[cfg(target_pointer_width = "32")]
 use crate::width::Index as usize;
 
+// `bulk` has the traits by which a kernel hands a holder many steps at once. Holders of slices have
+// faster ways to make them, and counters make them one by one.
+pub(crate) mod bulk;
 mod counters;
 mod references;
 mod slices;
 
 pub use counters::{Swaps, Writes};
 pub use slices::{SliceCells, SlicePlaces, SliceSource};
-
-/// A block of a matrix, and where its transpose goes.
-///
-/// The item in row r and column c of the block is at index `from + r * width + c` of a source. In
-/// the transpose, it belongs into cell `to + c * height + r`.
-#[derive(Clone, Copy, Debug, PartialEq, Eq)]
-pub struct Block {
-    /// The number of rows of the block.
-    pub rows: usize,
-    /// The number of its columns.
-    pub cols: usize,
-    /// The index of the block's first item.
-    pub from: usize,
-    /// The distance of two rows of the block in the source.
-    pub width: usize,
-    /// The cell of the block's first item.
-    pub to: usize,
-    /// The distance of two columns of the block in the cells.
-    pub height: usize,
-}
 
 /// A list whose items can only be exchanged: they can neither be read nor be moved in any other
 /// way.
@@ -63,63 +47,35 @@ pub struct Block {
 /// count of b is n more than the count of a. If it does not count, it ignores n. If it borrows its
 /// items, b borrows the same slice as a, so a change to the holder is a change to that slice.
 ///
-/// A holder of your own defines `len` and `exchange`. The methods after these are only for speed.
-/// Their bodies here do the same by calls of `exchange`.
+/// A holder of your own defines `len` and `exchange`.
 pub trait Places {
     /// The type of the items.
     type Item;
 
     /// The number of places.
+    ///
+    /// # Contract
+    ///
+    /// [`contracts`](crate::kernels::contracts) explains how to read this contract.
+    ///
+    /// ```text
+    /// ensures { result ≡ length (items self.now) }
+    /// ```
     fn len(&self) -> usize;
 
     /// Exchanges the items at places `i` and `j`. If `i` equals `j`, nothing changes.
+    ///
+    /// # Contract
+    ///
+    /// [`contracts`](crate::kernels::contracts) explains how to read this contract.
+    ///
+    /// ```text
+    /// requires first { i < length (items self.old) }
+    /// requires second { j < length (items self.old) }
+    /// ensures exchanged { items self.new ≡ swap (items self.old) i j }
+    /// ensures holder { same_holder 1 self.old self.new }
+    /// ```
     fn exchange(&mut self, i: usize, j: usize);
-
-    /// Only for speed: exchanges two tiles of 8 by 8 items, each with the mirror image of the
-    /// other. The item in row r and column c of a tile goes to row c and column r of the other
-    /// tile. Row r of the one tile is the 8 places from `x[r]` on, and row r of the other the 8
-    /// places from `y[r]` on. No two of these 16 rows may overlap. A holder may have a faster way
-    /// to do this than 64 calls of `exchange`.
-    #[inline(always)]
-    fn exchange_tiles(&mut self, x: [usize; 8], y: [usize; 8]) {
-        len_fits(self.len());
-        for r in 0..8 {
-            for c in 0..8 {
-                self.exchange(x[r as core::primitive::usize] + c, y[c as core::primitive::usize] + r);
-            }
-        }
-    }
-
-    /// Only for speed: transposes a tile of 8 by 8 items in place. For all r < c, the item in row r
-    /// and column c is exchanged with the item in row c and column r. Row r is the 8 places from
-    /// `x[r]` on. No two of the 8 rows may overlap. A holder may have a faster way to do this than
-    /// 28 calls of `exchange`.
-    #[inline(always)]
-    fn turn_tile(&mut self, x: [usize; 8]) {
-        len_fits(self.len());
-        for row in 0..8 {
-            for col in row + 1..8 {
-                self.exchange(x[row as core::primitive::usize] + col, x[col as core::primitive::usize] + row);
-            }
-        }
-    }
-
-    /// Only for speed: a hint that a call of `exchange_tiles` with the same arguments may come soon.
-    /// Nothing has to follow from it, and the list stays as it is. A holder may fetch the tiles into
-    /// a cache. The arguments may be any numbers.
-    #[inline(always)]
-    fn expect_tiles(&self, _x: [usize; 8], _y: [usize; 8]) {}
-
-    /// Only for speed: exchanges two runs of `len` consecutive items, those from place `i` on and
-    /// those from place `j` on. Each run keeps its order. The runs must not overlap. A holder may
-    /// have a faster way to do this than `len` calls of `exchange`.
-    #[inline(always)]
-    fn exchange_runs(&mut self, i: usize, j: usize, len: usize) {
-        len_fits(self.len());
-        for t in 0..len {
-            self.exchange(i + t, j + t);
-        }
-    }
 }
 
 /// A list into which items can be put, and from which none can be read.
@@ -132,36 +88,28 @@ pub trait Cells {
     type Item: Copy;
 
     /// The number of cells.
+    ///
+    /// # Contract
+    ///
+    /// [`contracts`](crate::kernels::contracts) explains how to read this contract.
+    ///
+    /// ```text
+    /// ensures { result ≡ length (items self.now) }
+    /// ```
     fn len(&self) -> usize;
 
     /// Puts `v` into cell `i`. All other cells keep their items.
+    ///
+    /// # Contract
+    ///
+    /// [`contracts`](crate::kernels::contracts) explains how to read this contract.
+    ///
+    /// ```text
+    /// requires { i < length (items self.old) }
+    /// ensures written { items self.new ≡ slice_set (items self.old) i v }
+    /// ensures holder { same_holder 1 self.old self.new }
+    /// ```
     fn put(&mut self, i: usize, v: Self::Item);
-
-    /// Only for speed: puts the transpose of a block. For each row r and column c of the block, the
-    /// item at index `from + r * width + c` of `source` is put into cell `to + c * height + r`. All
-    /// other cells keep their items. The columns of the block must not overlap in the cells. A
-    /// holder may have a faster way to do this than one call of `put` for each item.
-    #[inline(always)]
-    fn put_block<R: Source<Item = Self::Item>>(&mut self, source: &R, block: Block)
-    where
-        Self: Sized,
-    {
-        let Block {
-            rows,
-            cols,
-            from,
-            width,
-            to,
-            height,
-        } = block;
-        len_fits(source.len());
-        len_fits(Self::len(self));
-        for c in 0..cols {
-            for r in 0..rows {
-                self.put(to + c * height + r, source.at(from + r * width + c));
-            }
-        }
-    }
 }
 
 /// A list whose items can be read but not changed.
@@ -173,22 +121,27 @@ pub trait Source {
     type Item: Copy;
 
     /// The number of items.
+    ///
+    /// # Contract
+    ///
+    /// [`contracts`](crate::kernels::contracts) explains how to read this contract.
+    ///
+    /// ```text
+    /// ensures { result ≡ length (items self.now) }
+    /// ```
     fn len(&self) -> usize;
 
     /// The item at index `i`.
+    ///
+    /// # Contract
+    ///
+    /// [`contracts`](crate::kernels::contracts) explains how to read this contract.
+    ///
+    /// ```text
+    /// requires { i < length (items self.now) }
+    /// ensures { slice_get (items self.now) i ≡ Some result }
+    /// ```
     fn at(&self, i: usize) -> Self::Item;
-
-    /// Only for speed: a hint that the item at index `i` may be read soon. Nothing has to follow from it. A holder may fetch
-    /// the item into a cache. The index may be any number.
-    #[inline(always)]
-    fn expect(&self, _i: usize) {}
-
-    /// Only for speed: the items as a slice, if they are next to each other in memory in this
-    /// order. A holder of cells can then read more than one of them at once.
-    #[inline(always)]
-    fn as_slice(&self) -> Option<&[Self::Item]> {
-        None
-    }
 }
 
 /// Does nothing at run time. A function calls it with the length of a list, so that its proof knows

@@ -23,6 +23,7 @@ use crate::width::Index as usize;
 mod long;
 pub(crate) mod rows;
 
+use crate::kernels::places::bulk::Tiled;
 use crate::kernels::places::{Places, SlicePlaces, Swaps};
 use long::reverse_long;
 use rows::reverse_chunks;
@@ -136,7 +137,7 @@ fn reverse_rows_of_items<F>(vals: &mut [F], row_width: usize) -> &mut [F] {
 
 /// The kernel of [`reverse_index_bits_on`].
 #[inline(always)]
-pub(crate) fn reverse_index_bits<M: Places>(m: M) -> M {
+pub(crate) fn reverse_index_bits<M: Tiled>(m: M) -> M {
     if m.len() <= SHORT_PATH_ITEMS {
         reverse_short(m)
     } else {

@@ -4,8 +4,9 @@
 use core::mem::take;
 
 use crate::kernels::calls::Output;
+use crate::kernels::kernel::{Ahead, Block, Blocked, Tiled};
 use crate::kernels::parts::Shared;
-use crate::kernels::places::{Block, Cells, Places, SliceCells, SlicePlaces, Source};
+use crate::kernels::places::{Cells, Places, SliceCells, SlicePlaces};
 // A whole list is no range of another one, so no index has to be moved.
 pub(super) use crate::kernels::places::{SlicePlaces as WholeList, SliceSource};
 
@@ -49,7 +50,7 @@ impl<T: Copy> Output for SliceItems<'_, T> {
     const SIZE: usize = size_of::<T>();
     const IS_INLINED: bool = cfg!(not(debug_assertions));
 
-    fn copy<R: Source<Item = T> + Copy>(self, source: R) -> Self {
+    fn copy<R: Ahead<Item = T> + Copy>(self, source: R) -> Self {
         self.items.copy_from_slice(source.as_slice().expect("a whole slice"));
         self
     }
@@ -66,7 +67,9 @@ impl<F> Places for SliceItems<'_, F> {
     fn exchange(&mut self, i: usize, j: usize) {
         self.items.swap(i - self.before, j - self.before);
     }
+}
 
+impl<F> Tiled for SliceItems<'_, F> {
     fn exchange_runs(&mut self, i: usize, j: usize, len: usize) {
         SlicePlaces::new(self.items).exchange_runs(i - self.before, j - self.before, len);
     }
@@ -83,9 +86,11 @@ impl<T: Copy> Cells for SliceItems<'_, T> {
     fn put(&mut self, i: usize, v: T) {
         self.items[i - self.before] = v;
     }
+}
 
+impl<T: Copy> Blocked for SliceItems<'_, T> {
     #[inline(always)]
-    fn put_block<R: Source<Item = T>>(&mut self, source: &R, block: Block) {
+    fn put_block<R: Ahead<Item = T>>(&mut self, source: &R, block: Block) {
         let to = block.to - self.before;
         SliceCells::new(self.items).put_block(source, Block { to, ..block });
     }

@@ -18,8 +18,9 @@ pub(crate) use registers::USES_REGISTERS;
 pub(super) use registers::{Items, Vector};
 
 use crate::kernels::calls::Output;
+use crate::kernels::kernel::{Ahead, Block, Blocked, Tiled};
 use crate::kernels::parts::Shared;
-use crate::kernels::places::{Block, Cells, Places, Source};
+use crate::kernels::places::{Cells, Places, Source};
 use crate::kernels::registers::blocks::{
     LinesOfCells, RunsOfCells, SquaresOfCells, put_in_lines_if_runs, put_in_squares_if_runs,
 };
@@ -129,7 +130,7 @@ impl<T: Copy, D: Register<T>> Output for SliceItems<'_, T, D> {
     }
 
     #[inline]
-    fn copy<R: Source<Item = T> + Copy>(self, source: R) -> Self {
+    fn copy<R: Ahead<Item = T> + Copy>(self, source: R) -> Self {
         let items = source.as_slice().expect("a whole slice");
         debug_assert!(self.len == items.len());
         // SAFETY: both lists have this length, and the source is borrowed as long as it is read.
@@ -138,7 +139,7 @@ impl<T: Copy, D: Register<T>> Output for SliceItems<'_, T, D> {
     }
 
     #[inline(always)]
-    fn put_past_caches<W: PutRegion, R: Source<Item = T> + Copy>(
+    fn put_past_caches<W: PutRegion, R: Ahead<Item = T> + Copy>(
         self,
         way: W,
         matrix: Matrix<R>,
@@ -150,8 +151,6 @@ impl<T: Copy, D: Register<T>> Output for SliceItems<'_, T, D> {
     }
 }
 
-/// With debug assertions, functions that use registers have frames of their own: there a register is on the stack in each
-/// function that it goes through.
 impl<F, D: Register<F>> Places for SliceItems<'_, F, D> {
     type Item = F;
 
@@ -185,12 +184,16 @@ impl<F, D: Register<F>> Places for SliceItems<'_, F, D> {
             compiler_fence(Ordering::SeqCst);
         }
     }
+}
 
+/// With debug assertions, functions that use registers have frames of their own: there a register is on the stack in each
+/// function that it goes through.
+impl<F, D: Register<F>> Tiled for SliceItems<'_, F, D> {
     #[inline(always)]
     fn exchange_runs(&mut self, i: usize, j: usize, len: usize) {
         let n = self.len;
         debug_assert!(len <= n && i <= n - len && j <= n - len && i.abs_diff(j) >= len);
-        // SAFETY: both runs are within the slice, by the clauses `first` and `second` of `Places::exchange_runs`,
+        // SAFETY: both runs are within the slice, by the clauses `first` and `second` of `Tiled::exchange_runs`,
         // and do not overlap, by `apart`.
         unsafe {
             let (x, y) = (self.first.add(i), self.first.add(j));
@@ -265,10 +268,12 @@ impl<T: Copy, D: Register<T>> Cells for SliceItems<'_, T, D> {
             compiler_fence(Ordering::SeqCst);
         }
     }
+}
 
+impl<T: Copy, D: Register<T>> Blocked for SliceItems<'_, T, D> {
     #[cfg_attr(debug_assertions, inline(never))]
     #[cfg_attr(not(debug_assertions), inline(always))]
-    fn put_block<R: Source<Item = T>>(&mut self, source: &R, block: Block) {
+    fn put_block<R: Ahead<Item = T>>(&mut self, source: &R, block: Block) {
         let runs = source.as_slice().map(SliceItems::<T, D>::of_source);
         put_in_squares_if_runs(self, runs.as_ref(), source, block);
     }
@@ -346,10 +351,12 @@ impl<T: Copy, D: Register<T>> Cells for PastCaches<'_, T, D> {
             Runs::<_, Two<Vector>>::stream(&mut cells, i * parts + part, run);
         }
     }
+}
 
+impl<T: Copy, D: Register<T>> Blocked for PastCaches<'_, T, D> {
     #[cfg_attr(debug_assertions, inline(never))]
     #[cfg_attr(not(debug_assertions), inline(always))]
-    fn put_block<R: Source<Item = T>>(&mut self, source: &R, block: Block) {
+    fn put_block<R: Ahead<Item = T>>(&mut self, source: &R, block: Block) {
         let runs = source.as_slice().map(SliceItems::<T, D>::of_source);
         put_in_lines_if_runs(self, runs.as_ref(), source, block);
     }
@@ -429,7 +436,9 @@ impl<T: Copy> Source for SliceSource<'_, T> {
         // SAFETY: the index is within the slice, by the `requires` of `Source::at`.
         unsafe { *self.items.get_unchecked(i) }
     }
+}
 
+impl<T: Copy> Ahead for SliceSource<'_, T> {
     #[inline(always)]
     fn as_slice(&self) -> Option<&[T]> {
         Some(self.items)

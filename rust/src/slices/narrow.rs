@@ -2,7 +2,7 @@
 //! nothing there.
 
 use crate::kernels::calls::Output;
-use crate::kernels::places::Source;
+use crate::kernels::kernel::Ahead;
 pub(super) use crate::kernels::places::{SliceCells as SliceItems, SlicePlaces as WholeList, SliceSource};
 use crate::width::Index;
 
@@ -10,7 +10,7 @@ impl<T: Copy> Output for SliceItems<'_, T> {
     const SIZE: Index = size_of::<T>() as Index;
     const IS_INLINED: bool = cfg!(not(debug_assertions));
 
-    fn copy<R: Source<Item = T> + Copy>(self, source: R) -> Self {
+    fn copy<R: Ahead<Item = T> + Copy>(self, source: R) -> Self {
         self.values.copy_from_slice(source.as_slice().unwrap_or_default());
         self
     }

@@ -17,8 +17,10 @@ use super::holders::{Items, PastCaches, Vector};
 use super::holders::{SliceItems, SliceSource};
 use crate::kernels::bytes::plan_in_bytes;
 use crate::kernels::choice::Limits;
-use crate::kernels::kernel::HIGH_ROWS;
-use crate::kernels::places::{Block, Cells, Places, Source};
+#[cfg(not(feature = "checked"))]
+use crate::kernels::kernel::Ahead;
+use crate::kernels::kernel::{Block, Blocked, HIGH_ROWS, Tiled};
+use crate::kernels::places::{Cells, Places, Source};
 #[cfg(not(feature = "checked"))]
 use crate::kernels::registers::blocks::LinesOfCells;
 #[cfg(not(feature = "checked"))]
@@ -93,7 +95,7 @@ impl Cells for Noted {
 
 /// Makes the holder of a list that is tested.
 pub(super) trait Hold<'a, T> {
-    type Holder: Places<Item = T>;
+    type Holder: Tiled<Item = T>;
 
     fn hold(list: &'a mut [T]) -> Self::Holder;
 }
@@ -424,7 +426,7 @@ struct Aligned<T>([T; 600]);
 
 /// Puts a block by a holder.
 #[cfg(all(target_os = "linux", not(feature = "checked")))]
-pub(super) fn put_block<T: Copy, H: for<'a> Hold<'a, T, Holder: Cells<Item = T>>>(
+pub(super) fn put_block<T: Copy, H: for<'a> Hold<'a, T, Holder: Blocked<Item = T>>>(
     cells: &mut [T],
     source: &[T],
     block: Block,
@@ -608,7 +610,7 @@ mod refused {
         });
     }
 
-    fn refuses_blocks<H: for<'a> Hold<'a, u32, Holder: Cells<Item = u32>>>() {
+    fn refuses_blocks<H: for<'a> Hold<'a, u32, Holder: Blocked<Item = u32>>>() {
         let refused = |change: fn(&mut Block)| {
             let mut block = Block {
                 rows: 4,

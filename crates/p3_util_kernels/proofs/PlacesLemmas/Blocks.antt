@@ -5,7 +5,7 @@ use Rattle.std.proofs.Math.ListN.{length-take}
 use Rattle.std.proofs.lemmas.Bool.{cases_eq, cases_lt}
 use Rattle.std.proofs.lemmas.List.{length-set}
 use Rattle.std.proofs.lemmas.Nat.{mul-add-lt, same_from_place}
-use Rattle.p3_util_kernels.specs.declared.places.Block.{Block}
+use Rattle.p3_util_kernels.specs.declared.places.bulk.Block.{Block}
 use Rattle.p3_util_kernels.specs.declared.transpose.regions.Region.{Region}
 use Rattle.p3_util_kernels.specs.BlockPut.{AreRows, BlockFits, IsBlockPut, block_items}
 use Rattle.p3_util_kernels.specs.Region.{IsReady, IsRegionTransposed, cols_of, rows_of}

@@ -7,10 +7,9 @@
 
 ghost use Rattle.std.specs.Prelude.{◌≡◌, ℕ, ◌+◌, ◌-◌, ◌*◌, ◌^◌, ◌<◌, ◌≤◌, ◌⊎◌, List, length, swap, slice_set};
 ghost use Rattle.std.proofs.Common.{rules};
-ghost use Rattle.p3_util_kernels.specs.Exchanged.{AreTiles, IsTile, RunsExchanged, TileTurned, TilesExchanged};
 ghost use Rattle.p3_util_kernels.specs.Steps.{counted};
 
-use crate::places::{Block, Cells, Places, Source, len_fits};
+use crate::places::{Cells, Places, len_fits};
 
 /// A counter around a holder of places. It counts exchanges. The count stops at `u128::MAX`.
 #[derive(Debug, Drop)]
@@ -160,29 +159,6 @@ impl<S: Places> Places for Swaps<S> {
         Swaps::swap(self, i, j);
     }
 
-    #[inline(always)]
-    fn exchange_tiles(&mut self, x: [usize; 8], y: [usize; 8]) {
-        self.holder.exchange_tiles(x, y);
-        self.count = self.count.saturating_add(64);
-    }
-
-    #[inline(always)]
-    fn turn_tile(&mut self, x: [usize; 8]) {
-        self.holder.turn_tile(x);
-        self.count = self.count.saturating_add(28);
-    }
-
-    #[inline(always)]
-    fn expect_tiles(&self, x: [usize; 8], y: [usize; 8]) {
-        self.holder.expect_tiles(x, y);
-    }
-
-    #[inline(always)]
-    fn exchange_runs(&mut self, i: usize, j: usize, len: usize) {
-        self.holder.exchange_runs(i, j, len);
-        self.count = self.count.saturating_add(len as u128);
-    }
-
     ghost same_holder_refl = { Prim.search rules };
 
     ghost same_holder_trans = { Prim.search rules };
@@ -204,13 +180,6 @@ impl<C: Cells> Cells for Writes<C> {
     #[inline(always)]
     fn put(&mut self, i: usize, v: Self::Item) {
         Writes::put(self, i, v);
-    }
-
-    #[inline(always)]
-    fn put_block<R: Source<Item = Self::Item>>(&mut self, source: &R, block: Block) {
-        self.holder.put_block(source, block);
-        let items = block.rows as u128 * block.cols as u128;
-        self.count = self.count.saturating_add(items);
     }
 
     ghost same_holder_refl = { Prim.search rules };

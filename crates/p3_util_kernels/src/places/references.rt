@@ -4,7 +4,7 @@
 ghost use Rattle.std.specs.Prelude.{◌≡◌};
 ghost use Rattle.std.proofs.Common.{rules};
 
-use crate::places::{Block, Cells, Places, Source};
+use crate::places::{Cells, Places, Source};
 
 /// The holder behind the reference makes the exchanges.
 impl<S: Places> Places for &mut S {
@@ -21,26 +21,6 @@ impl<S: Places> Places for &mut S {
     #[inline(always)]
     fn exchange(&mut self, i: usize, j: usize) {
         S::exchange(self, i, j);
-    }
-
-    #[inline(always)]
-    fn exchange_tiles(&mut self, x: [usize; 8], y: [usize; 8]) {
-        S::exchange_tiles(self, x, y);
-    }
-
-    #[inline(always)]
-    fn turn_tile(&mut self, x: [usize; 8]) {
-        S::turn_tile(self, x);
-    }
-
-    #[inline(always)]
-    fn expect_tiles(&self, x: [usize; 8], y: [usize; 8]) {
-        S::expect_tiles(self, x, y);
-    }
-
-    #[inline(always)]
-    fn exchange_runs(&mut self, i: usize, j: usize, len: usize) {
-        S::exchange_runs(self, i, j, len);
     }
 
     ghost same_holder_refl = { Prim.search rules };
@@ -65,11 +45,6 @@ impl<C: Cells> Cells for &mut C {
         C::put(self, i, v);
     }
 
-    #[inline(always)]
-    fn put_block<R: Source<Item = Self::Item>>(&mut self, source: &R, block: Block) {
-        C::put_block(self, source, block);
-    }
-
     ghost same_holder_refl = { Prim.search rules };
 
     ghost same_holder_trans = { Prim.search rules };
@@ -88,15 +63,5 @@ impl<R: Source> Source for &R {
     #[inline(always)]
     fn at(&self, i: usize) -> Self::Item {
         R::at(self, i)
-    }
-
-    #[inline(always)]
-    fn as_slice(&self) -> Option<&[Self::Item]> {
-        R::as_slice(self)
-    }
-
-    #[inline(always)]
-    fn expect(&self, i: usize) {
-        R::expect(self, i);
     }
 }

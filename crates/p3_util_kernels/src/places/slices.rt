@@ -6,7 +6,8 @@ ghost use Rattle.std.proofs.Common.{rules};
 ghost use Rattle.p3_util_kernels.specs.BlockPut.{AreRows, BlockFits, IsBlockPut, block_items};
 ghost use Rattle.p3_util_kernels.specs.Exchanged.{RunsExchanged};
 
-use crate::places::{Block, Cells, Places, Source, len_fits};
+use crate::places::bulk::{Ahead, Block, Blocked, Tiled};
+use crate::places::{Cells, Places, Source, len_fits};
 
 /// The places of a mutable slice. All changes are made in the slice itself.
 #[derive(Debug, Drop)]
@@ -40,14 +41,16 @@ impl<'a, F> Places for SlicePlaces<'a, F> {
         self.items.swap(i, j);
     }
 
+    ghost same_holder_refl = { Prim.search rules };
+
+    ghost same_holder_trans = { Prim.search rules };
+}
+
+impl<'a, F> Tiled for SlicePlaces<'a, F> {
     #[inline(always)]
     fn exchange_runs(&mut self, i: usize, j: usize, len: usize) {
         exchange_runs_of_items(self.items, i, j, len);
     }
-
-    ghost same_holder_refl = { Prim.search rules };
-
-    ghost same_holder_trans = { Prim.search rules };
 }
 
 /// Exchanges two runs of `len` items: those from place `i` on and those from place `j` on.
@@ -95,8 +98,14 @@ impl<'a, T: Copy> Cells for SliceCells<'a, T> {
         self.values[i] = v;
     }
 
+    ghost same_holder_refl = { Prim.search rules };
+
+    ghost same_holder_trans = { Prim.search rules };
+}
+
+impl<'a, T: Copy> Blocked for SliceCells<'a, T> {
     #[inline(always)]
-    fn put_block<R: Source<Item = T>>(&mut self, source: &R, block: Block) {
+    fn put_block<R: Ahead<Item = T>>(&mut self, source: &R, block: Block) {
         match source.as_slice() {
             Some(items) if block.rows == 4 && block.cols > 0 => put_four(self.values, items, block),
             Some(items) if block.rows == 8 && block.cols > 0 => put_eight(
@@ -110,10 +119,6 @@ impl<'a, T: Copy> Cells for SliceCells<'a, T> {
             _ => put_items(self.values, source, block),
         }
     }
-
-    ghost same_holder_refl = { Prim.search rules };
-
-    ghost same_holder_trans = { Prim.search rules };
 }
 
 /// Puts a block item by item.
@@ -282,7 +287,9 @@ impl<'a, T: Copy> Source for SliceSource<'a, T> {
     fn at(&self, i: usize) -> T {
         self.slice[i]
     }
+}
 
+impl<'a, T: Copy> Ahead for SliceSource<'a, T> {
     #[inline(always)]
     fn as_slice(&self) -> Option<&[T]> {
         Some(self.slice)

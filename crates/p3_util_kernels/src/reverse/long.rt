@@ -17,13 +17,13 @@ ghost use Rattle.p3_util_kernels.specs.SwapCounts.{long_swaps, square_swaps};
 ghost use Rattle.p3_util_kernels.specs.SideBySide.{AreTransposed};
 
 use crate::bits::{log2_strict_usize, pow2};
-use crate::places::Places;
+use crate::places::bulk::Tiled;
 use crate::reverse::rows::reverse_chunks;
 use crate::transpose::transpose_square;
 
 /// The kernel of [`reverse_index_bits_long`](crate::reverse::reverse_index_bits_long).
 #[inline(never)]
-pub(crate) fn reverse_long<M: Places>(m: M) -> M
+pub(crate) fn reverse_long<M: Tiled>(m: M) -> M
     requires fits { IsReversible (length (M.items m)) }
     requires not_short { 4 ≤ length (M.items m) }
     ensures order { IsReversal (M.items m) (M.items result) }
@@ -39,7 +39,7 @@ pub(crate) fn reverse_long<M: Places>(m: M) -> M
 /// Transposes each of the squares that lie side by side in `m`. The list is `2^log_size` rows of
 /// `2^log_stride` items, and each square has `2^log_size` rows and columns. A list of n items takes
 /// at most n/2 exchanges.
-fn transpose_squares<M: Places>(m: M, log_stride: usize, log_size: usize) -> M
+fn transpose_squares<M: Tiled>(m: M, log_stride: usize, log_size: usize) -> M
     requires within { log_size ≤ log_stride }
     requires whole { length (M.items m) ≡ 2 ^ (log_size + log_stride) }
     requires len_fits { length (M.items m) < 2 ^ 64 }

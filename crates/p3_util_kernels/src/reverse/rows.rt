@@ -26,7 +26,7 @@ ghost use Rattle.p3_util_kernels.specs.SwapCounts.{row_swaps, short_swaps};
 
 use crate::bits::{log2_strict_usize, pow2};
 use crate::grid::{Grid, exchange_square};
-use crate::places::Places;
+use crate::places::bulk::Tiled;
 
 /// Rows of `width` items each, whose indices have `digits` binary digits: there are `2^digits`
 /// rows, or none.
@@ -92,7 +92,7 @@ impl RowDigits {
 #[tactic(auto, using(crate::proofs::ReverseLemmas::Lengths::rows_of_one))]
 #[inline(always)]
 #[doc(hidden)]
-pub fn reverse_short<M: Places>(m: M) -> M
+pub fn reverse_short<M: Tiled>(m: M) -> M
     requires { IsReversible (length (M.items m)) }
     ensures order { IsReversal (M.items m) (M.items result) }
     ensures holder { M.same_holder (short_swaps (clog (length (M.items m)))) m result }
@@ -103,7 +103,7 @@ pub fn reverse_short<M: Places>(m: M) -> M
 
 /// The kernel of [`reverse_chunks_on`](crate::reverse::reverse_chunks_on).
 #[inline(always)]
-pub(crate) fn reverse_chunks<M: Places>(m: M, lb_num_chunks: usize, lb_chunk_size: usize) -> M
+pub(crate) fn reverse_chunks<M: Tiled>(m: M, lb_num_chunks: usize, lb_chunk_size: usize) -> M
     requires whole { length (M.items m) ≡ 2 ^ (lb_num_chunks + lb_chunk_size) }
     requires len_fits { length (M.items m) < 2 ^ 64 }
     ensures order { IsRowReversal (2 ^ lb_chunk_size) (M.items m) (M.items result) }
@@ -115,7 +115,7 @@ pub(crate) fn reverse_chunks<M: Places>(m: M, lb_num_chunks: usize, lb_chunk_siz
 /// The kernel of [`reverse_row_index_bits_on`](crate::reverse::reverse_row_index_bits_on).
 #[inline(always)]
 #[doc(hidden)]
-pub fn reverse_rows<M: Places>(m: M, rows: RowDigits) -> M
+pub fn reverse_rows<M: Tiled>(m: M, rows: RowDigits) -> M
     requires fits { FitsRows (length (M.items m)) rows.width }
     requires digits { rows.digits ≡ clog (length (M.items m) / rows.width) }
     requires len_fits { length (M.items m) < 2 ^ 64 }
@@ -137,7 +137,7 @@ pub fn reverse_rows<M: Places>(m: M, rows: RowDigits) -> M
 /// Exchanges all pairs of rows whose indices are each other's reverse. In each grid this is done by
 /// quadrants or row by row.
 #[inline(always)]
-fn exchange_pairs<M: Places>(m: M, rows: RowDigits, row_by_row: bool) -> M
+fn exchange_pairs<M: Tiled>(m: M, rows: RowDigits, row_by_row: bool) -> M
     requires fits { FitsRows (length (M.items m)) rows.width }
     requires digits { rows.digits ≡ clog (length (M.items m) / rows.width) }
     requires len_fits { length (M.items m) < 2 ^ 64 }
@@ -158,7 +158,7 @@ fn exchange_pairs<M: Places>(m: M, rows: RowDigits, row_by_row: bool) -> M
 /// Does the same as [`exchange_pairs`], by quadrants, in a function of its own. So a call with few
 /// rows needs no stack frame, which would take longer than its exchanges.
 #[inline(never)]
-pub(crate) fn exchange_pairs_outlined<M: Places>(m: M, rows: RowDigits) -> M
+pub(crate) fn exchange_pairs_outlined<M: Tiled>(m: M, rows: RowDigits) -> M
     requires fits { FitsRows (length (M.items m)) rows.width }
     requires digits { rows.digits ≡ clog (length (M.items m) / rows.width) }
     requires len_fits { length (M.items m) < 2 ^ 64 }

@@ -8,6 +8,7 @@ ghost use Rattle.p3_util_kernels.specs.Steps.{counted};
 ghost use Rattle.p3_util_kernels.specs.Transpose.{IsTranspose};
 
 use crate::bits::pow2;
+use crate::places::bulk::Ahead;
 use crate::places::{Cells, Places, SliceSource, Source, Swaps, Writes};
 use crate::transpose::regions::{Matrix, Region};
 use crate::transpose::split::put_split;
@@ -204,7 +205,7 @@ pub fn transpose_square_on<S: Places>(
 
 /// Splits and puts `region`, with a counter that starts at `count`. Returns the holder inside the
 /// counter, the new count, and how deep the splits nest.
-fn put_split_resumed<C: Cells, R: Source<Item = C::Item> + Copy>(
+fn put_split_resumed<C: Cells, R: Ahead<Item = C::Item> + Copy>(
     cells: C,
     count: u128,
     matrix: Matrix<R>,

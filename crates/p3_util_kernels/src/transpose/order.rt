@@ -2,7 +2,8 @@
 
 ghost use Rattle.std.specs.Prelude.{◌^◌, ◌<◌, length};
 
-use crate::places::{Cells, Source};
+use crate::places::Source;
+use crate::places::bulk::{Ahead, Blocked};
 use crate::transpose::ENOUGH_LEVELS;
 use crate::transpose::regions::{Matrix, Region};
 use crate::transpose::split::put_split;
@@ -45,7 +46,7 @@ impl Order<Strips<4, UNIT>> {
 
 impl<S: PutRegion> PutRegion for Order<S> {
     #[inline(always)]
-    fn put<M: Cells, R: Source<Item = M::Item> + Copy>(
+    fn put<M: Blocked, R: Ahead<Item = M::Item> + Copy>(
         self,
         out: M,
         matrix: Matrix<R>,

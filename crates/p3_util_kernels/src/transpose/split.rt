@@ -7,7 +7,7 @@ ghost use Rattle.p3_util_kernels.specs.Halves.{AreHalves};
 ghost use Rattle.p3_util_kernels.specs.Levels.{lev, nest};
 ghost use Rattle.p3_util_kernels.specs.Region.{IsReady, IsRegionTransposed, LiesInMatrix, cols_of, items_of, rows_of};
 
-use crate::places::{Cells, Source};
+use crate::places::bulk::{Ahead, Blocked};
 use crate::transpose::regions::{Matrix, Region};
 use crate::transpose::ways::PutRegion;
 
@@ -21,7 +21,7 @@ const NARROW_SIDE: usize = 2;
 /// The kernel of [`transpose_source_split_on`](crate::transpose::transpose_source_split_on). Splits
 /// `region` into leaves, with splits that nest at most `levels` deep, and puts each leaf in the way
 /// `leaf`. Also returns how deep the splits nest.
-pub(crate) fn put_split<M: Cells, R: Source<Item = M::Item> + Copy, W: PutRegion>(
+pub(crate) fn put_split<M: Blocked, R: Ahead<Item = M::Item> + Copy, W: PutRegion>(
     out: M,
     matrix: Matrix<R>,
     region: Region,

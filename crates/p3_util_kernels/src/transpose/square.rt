@@ -9,15 +9,10 @@ ghost use Rattle.p3_util_kernels.specs.Square.{IsSquareTransposed};
 
 use crate::bits::pow2;
 use crate::grid::{Grid, exchange_square};
-use crate::places::Places;
+use crate::places::bulk::Tiled;
 
 /// The kernel of [`transpose_square_on`](crate::transpose::transpose_square_on).
-pub(crate) fn transpose_square<M: Places>(
-    m: M,
-    base: usize,
-    log_stride: usize,
-    log_size: usize,
-) -> M
+pub(crate) fn transpose_square<M: Tiled>(m: M, base: usize, log_stride: usize, log_size: usize) -> M
     requires rows_apart { log_size ≤ log_stride }
     requires stride_fits { log_stride < 64 }
     requires room { let s = 2 ^ log_size in base + (s - 1) * 2 ^ log_stride + (s - 1)

@@ -10,7 +10,8 @@
 
 ghost use Rattle.std.specs.Prelude.{◌≡◌, ◌+◌, ◌<◌, ◌≤◌};
 
-use crate::places::{Cells, Source};
+use crate::places::Source;
+use crate::places::bulk::{Ahead, Blocked};
 use crate::transpose::regions::{Matrix, Region};
 use crate::transpose::ways::{Blocks, Columns, InCols, InRows, Outlined, PutRegion};
 
@@ -83,7 +84,7 @@ impl Strips<4, UNIT> {
 }
 
 impl<const SIDE: usize, const ROWS: usize> PutRegion for Strips<SIDE, ROWS> {
-    fn put<M: Cells, R: Source<Item = M::Item> + Copy>(
+    fn put<M: Blocked, R: Ahead<Item = M::Item> + Copy>(
         self,
         out: M,
         matrix: Matrix<R>,
@@ -112,7 +113,7 @@ struct Squares<const SIDE: usize>;
 
 impl<const SIDE: usize> PutRegion for Squares<SIDE> {
     #[inline(never)]
-    fn put<M: Cells, R: Source<Item = M::Item> + Copy>(
+    fn put<M: Blocked, R: Ahead<Item = M::Item> + Copy>(
         self,
         out: M,
         matrix: Matrix<R>,

@@ -18,7 +18,7 @@ ghost use Rattle.std.specs.Prelude.{◌≡◌, ◌+◌, ◌*◌, ◌<◌};
 ghost use Rattle.p3_util_kernels.specs.Columns.{HoldsColumn, IsColumnPut};
 ghost use Rattle.p3_util_kernels.specs.Region.{IsReady, IsRegionTransposed, items_of};
 
-use crate::places::{Block, Cells, Source};
+use crate::places::bulk::{Ahead, Block, Blocked};
 use crate::transpose::regions::{Matrix, Region};
 
 /// A column is put by loops over this many items each. The compiler knows how long these loops are.
@@ -29,7 +29,7 @@ const COLUMN_ITEMS: usize = 8;
 #[doc(hidden)]
 pub trait PutRegion: Copy {
     /// Puts `region` in this way.
-    fn put<M: Cells, R: Source<Item = M::Item> + Copy>(
+    fn put<M: Blocked, R: Ahead<Item = M::Item> + Copy>(
         self,
         out: M,
         matrix: Matrix<R>,
@@ -50,7 +50,7 @@ pub struct InRows<const ROWS: usize, W, V>(pub W, pub V);
 
 impl<const ROWS: usize, W: PutRegion, V: PutRegion> PutRegion for InRows<ROWS, W, V> {
     #[inline(always)]
-    fn put<M: Cells, R: Source<Item = M::Item> + Copy>(
+    fn put<M: Blocked, R: Ahead<Item = M::Item> + Copy>(
         self,
         out: M,
         matrix: Matrix<R>,
@@ -82,7 +82,7 @@ pub struct InCols<const COLS: usize, W, V>(pub W, pub V);
 
 impl<const COLS: usize, W: PutRegion, V: PutRegion> PutRegion for InCols<COLS, W, V> {
     #[inline(always)]
-    fn put<M: Cells, R: Source<Item = M::Item> + Copy>(
+    fn put<M: Blocked, R: Ahead<Item = M::Item> + Copy>(
         self,
         out: M,
         matrix: Matrix<R>,
@@ -112,7 +112,7 @@ pub struct Blocks<const ROWS: usize, V>(pub V);
 
 impl<const ROWS: usize, V: PutRegion> PutRegion for Blocks<ROWS, V> {
     #[inline(always)]
-    fn put<M: Cells, R: Source<Item = M::Item> + Copy>(
+    fn put<M: Blocked, R: Ahead<Item = M::Item> + Copy>(
         self,
         out: M,
         matrix: Matrix<R>,
@@ -151,7 +151,7 @@ pub enum RowBlocks {
 
 impl PutRegion for RowBlocks {
     #[inline(always)]
-    fn put<M: Cells, R: Source<Item = M::Item> + Copy>(
+    fn put<M: Blocked, R: Ahead<Item = M::Item> + Copy>(
         self,
         out: M,
         matrix: Matrix<R>,
@@ -173,7 +173,7 @@ pub struct Outlined<W>(pub W);
 
 impl<W: PutRegion> PutRegion for Outlined<W> {
     #[inline(never)]
-    fn put<M: Cells, R: Source<Item = M::Item> + Copy>(
+    fn put<M: Blocked, R: Ahead<Item = M::Item> + Copy>(
         self,
         out: M,
         matrix: Matrix<R>,
@@ -186,7 +186,7 @@ impl<W: PutRegion> PutRegion for Outlined<W> {
 /// Puts a region as one block, in the holder's own way.
 #[inline(always)]
 #[doc(hidden)]
-pub fn put_as_block<M: Cells, R: Source<Item = M::Item> + Copy>(
+pub fn put_as_block<M: Blocked, R: Ahead<Item = M::Item> + Copy>(
     out: M,
     matrix: Matrix<R>,
     region: Region,
@@ -224,7 +224,7 @@ pub struct Columns;
 
 impl PutRegion for Columns {
     #[inline(always)]
-    fn put<M: Cells, R: Source<Item = M::Item> + Copy>(
+    fn put<M: Blocked, R: Ahead<Item = M::Item> + Copy>(
         self,
         out: M,
         matrix: Matrix<R>,
@@ -252,7 +252,7 @@ pub struct ShortColumns;
 
 impl PutRegion for ShortColumns {
     #[inline(always)]
-    fn put<M: Cells, R: Source<Item = M::Item> + Copy>(
+    fn put<M: Blocked, R: Ahead<Item = M::Item> + Copy>(
         self,
         out: M,
         matrix: Matrix<R>,
@@ -276,7 +276,7 @@ impl PutRegion for ShortColumns {
 /// `from` of the source. Most items are put by loops of `COLUMN_ITEMS` items, and the rest by one
 /// more loop.
 #[inline(always)]
-fn put_column<M: Cells, R: Source<Item = M::Item> + Copy>(
+fn put_column<M: Blocked, R: Ahead<Item = M::Item> + Copy>(
     out: M,
     matrix: Matrix<R>,
     from: usize,
@@ -314,7 +314,7 @@ fn put_column<M: Cells, R: Source<Item = M::Item> + Copy>(
 
 /// Does the same as [`put_column`], in one loop.
 #[inline(always)]
-fn put_items<M: Cells, R: Source<Item = M::Item> + Copy>(
+fn put_items<M: Blocked, R: Ahead<Item = M::Item> + Copy>(
     out: M,
     matrix: Matrix<R>,
     from: usize,

@@ -36,6 +36,7 @@ ghost use Rattle.p3_util_kernels.specs.SwapCounts.{row_swaps};
 ghost use Rattle.p3_util_kernels.specs.Transpose.{IsTranspose};
 
 use crate::parts::{ReversalPlan, TransposePlan};
+use p3_util_kernels::kernel::{Blocked, Tiled};
 use p3_util_kernels::places::{Cells, Places};
 
 /// A holder whose `same_holder n a b` says that some n puts turn the items of `a` into those of
@@ -67,6 +68,8 @@ impl<C: Cells> Cells for PutSteps<C> {
         (C.items b.cells) (C.items c.cells) };
 }
 
+impl<C: Cells> Blocked for PutSteps<C> {}
+
 /// A holder whose `same_holder n a b` says that some n exchanges turn the items of `a` into those
 /// of `b`.
 #[derive(Drop)]
@@ -95,6 +98,8 @@ impl<S: Places> Places for ExchangeSteps<S> {
     ghost same_holder_trans = { λ m n all a b c. more_swaps m n all (S.items a.places)
         (S.items b.places) (S.items c.places) };
 }
+
+impl<S: Places> Tiled for ExchangeSteps<S> {}
 
 /// The law for a transpose. Each part puts numbers from the list 0, 1, 2 and so on into a list that
 /// has none of these numbers. Its puts are then at the places of its region, one at each, and two

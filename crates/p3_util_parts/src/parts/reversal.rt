@@ -11,7 +11,7 @@ ghost use Rattle.std.specs.Prelude.{◌≡◌, ℕ, IfErr, IfOk};
 
 use crate::parts::RowPairs;
 use crate::parts::numbers::{Part, Plan};
-use p3_util_kernels::places::Places;
+use p3_util_kernels::kernel::Tiled;
 
 /// How the reversal of rows is cut.
 #[derive(Clone, Copy)]
@@ -86,7 +86,7 @@ impl Part<ReversalPlan> {
 impl Part<RowPairs> {
     /// Exchanges the two rows of each pair in this patch.
     #[doc(hidden)]
-    pub fn exchange<M: Places>(self, m: M) -> M
+    pub fn exchange<M: Tiled>(self, m: M) -> M
         requires { HoldsRows self.plan.rows.width self.plan.rows.digits (M.items m) }
         ensures { IsPatchExchanged self.plan.rows.digits self.plan.rows.width self.plan.cut.part_len self.number
             (M.items m) (M.items result) (λ n. M.same_holder n m result) }

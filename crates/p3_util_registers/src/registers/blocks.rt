@@ -7,7 +7,8 @@ ghost use Rattle.p3_util_registers.specs.Registers.{IsSide};
 
 use crate::registers::line_blocks::put_by_lines;
 use crate::registers::{Register, Runs, put_by_squares};
-use p3_util_kernels::places::{Block, Cells, Source};
+use p3_util_kernels::kernel::Block;
+use p3_util_kernels::places::{Cells, Source};
 
 /// Cells into which runs are put, too.
 pub(crate) trait RunsOfCells<T: Copy, D: Register<T>>: Runs<T, D> + Cells<Item = T> {
@@ -35,7 +36,7 @@ pub(crate) trait LinesOfCells<T: Copy, D: Register<T>>: RunsOfCells<T, D> {
         ensures { IsTrue result → LinesReached D.SIDE block (Self.Runs.may_stream (Self.Runs.reach self.now)) };
 }
 
-/// Does what `Cells::put_block` does: by squares if the block is one that the holder transposes in registers, and otherwise item
+/// Does what `Blocked::put_block` does: by squares if the block is one that the holder transposes in registers, and otherwise item
 /// by item. Registers are read from `runs`, which has the items of the source. A holder may read each run of these, and put each
 /// run that is within a column of the block.
 #[inline(always)]
@@ -69,7 +70,7 @@ pub(crate) fn put_block_in_squares<
     put_singly(cells, source, block);
 }
 
-/// Does what `Cells::put_block` does: by whole lines if the holder may stream the lines of the block, and otherwise item by item.
+/// Does what `Blocked::put_block` does: by whole lines if the holder may stream the lines of the block, and otherwise item by item.
 /// Registers are read from `runs`, which has the items of the source. A holder may read each run of these.
 #[inline(always)]
 pub(crate) fn put_block_in_lines<
@@ -94,7 +95,7 @@ pub(crate) fn put_block_in_lines<
     put_singly(cells, source, block);
 }
 
-/// Does what `Cells::put_block` does: as [`put_block_in_squares`] if there are `runs`, which have the items of the source,
+/// Does what `Blocked::put_block` does: as [`put_block_in_squares`] if there are `runs`, which have the items of the source,
 /// and otherwise item by item.
 #[inline(always)]
 pub(crate) fn put_in_squares_if_runs<
@@ -119,7 +120,7 @@ pub(crate) fn put_in_squares_if_runs<
     }
 }
 
-/// Does what `Cells::put_block` does: as [`put_block_in_lines`] if there are `runs`, which have the items of the source,
+/// Does what `Blocked::put_block` does: as [`put_block_in_lines`] if there are `runs`, which have the items of the source,
 /// and otherwise item by item.
 #[inline(always)]
 pub(crate) fn put_in_lines_if_runs<

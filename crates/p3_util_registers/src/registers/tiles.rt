@@ -18,7 +18,7 @@ pub(crate) trait RunsOfPlaces<T, D: Register<T>>: Runs<T, D> + Places<Item = T> 
     ghost same_tile: { (a b : Self) → Self.Runs.same_holder 64 a b → Self.Places.same_holder 28 a b };
 }
 
-/// Does what `Places::exchange_tiles` does: in registers if squares have 2, 4 or 8 rows, and otherwise item by item.
+/// Does what `Tiled::exchange_tiles` does: in registers if squares have 2, 4 or 8 rows, and otherwise item by item.
 #[inline(always)]
 pub(crate) fn exchange_both<T, D: Register<T>, M: RunsOfPlaces<T, D>>(
     list: &mut M,
@@ -37,7 +37,7 @@ pub(crate) fn exchange_both<T, D: Register<T>, M: RunsOfPlaces<T, D>>(
     }
 }
 
-/// Does what `Places::turn_tile` does: in registers if squares have 2, 4 or 8 rows, and otherwise item by item.
+/// Does what `Tiled::turn_tile` does: in registers if squares have 2, 4 or 8 rows, and otherwise item by item.
 #[inline(always)]
 pub(crate) fn turn<T, D: Register<T>, M: RunsOfPlaces<T, D>>(list: &mut M, x: [usize; 8])
     requires tile { IsTile x (length (M.Places.items list.old)) }

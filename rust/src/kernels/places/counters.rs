@@ -8,7 +8,7 @@
 
 #[cfg(target_pointer_width = "32")]
 use crate::width::Index as usize;
-use crate::kernels::places::{Block, Cells, Places, Source, len_fits};
+use crate::kernels::places::{Cells, Places, len_fits};
 
 /// A counter around a holder of places. It counts exchanges. The count stops at `u128::MAX`.
 #[derive(Debug)]
@@ -111,29 +111,6 @@ impl<S: Places> Places for Swaps<S> {
     fn exchange(&mut self, i: usize, j: usize) {
         Swaps::swap(self, i, j);
     }
-
-    #[inline(always)]
-    fn exchange_tiles(&mut self, x: [usize; 8], y: [usize; 8]) {
-        self.holder.exchange_tiles(x, y);
-        self.count = self.count.saturating_add(64);
-    }
-
-    #[inline(always)]
-    fn turn_tile(&mut self, x: [usize; 8]) {
-        self.holder.turn_tile(x);
-        self.count = self.count.saturating_add(28);
-    }
-
-    #[inline(always)]
-    fn expect_tiles(&self, x: [usize; 8], y: [usize; 8]) {
-        self.holder.expect_tiles(x, y);
-    }
-
-    #[inline(always)]
-    fn exchange_runs(&mut self, i: usize, j: usize, len: usize) {
-        self.holder.exchange_runs(i, j, len);
-        self.count = self.count.saturating_add(len as u128);
-    }
 }
 
 /// The holder inside makes each put, and the counter counts it.
@@ -147,12 +124,5 @@ impl<C: Cells> Cells for Writes<C> {
     #[inline(always)]
     fn put(&mut self, i: usize, v: Self::Item) {
         Writes::put(self, i, v);
-    }
-
-    #[inline(always)]
-    fn put_block<R: Source<Item = Self::Item>>(&mut self, source: &R, block: Block) {
-        self.holder.put_block(source, block);
-        let items = block.rows as u128 * block.cols as u128;
-        self.count = self.count.saturating_add(items);
     }
 }

@@ -4,7 +4,7 @@
 
 #[cfg(target_pointer_width = "32")]
 use crate::width::Index as usize;
-use crate::kernels::places::{Block, Cells, Places, Source};
+use crate::kernels::places::{Cells, Places, Source};
 
 /// The holder behind the reference makes the exchanges.
 impl<S: Places> Places for &mut S {
@@ -17,26 +17,6 @@ impl<S: Places> Places for &mut S {
     #[inline(always)]
     fn exchange(&mut self, i: usize, j: usize) {
         S::exchange(self, i, j);
-    }
-
-    #[inline(always)]
-    fn exchange_tiles(&mut self, x: [usize; 8], y: [usize; 8]) {
-        S::exchange_tiles(self, x, y);
-    }
-
-    #[inline(always)]
-    fn turn_tile(&mut self, x: [usize; 8]) {
-        S::turn_tile(self, x);
-    }
-
-    #[inline(always)]
-    fn expect_tiles(&self, x: [usize; 8], y: [usize; 8]) {
-        S::expect_tiles(self, x, y);
-    }
-
-    #[inline(always)]
-    fn exchange_runs(&mut self, i: usize, j: usize, len: usize) {
-        S::exchange_runs(self, i, j, len);
     }
 }
 
@@ -52,11 +32,6 @@ impl<C: Cells> Cells for &mut C {
     fn put(&mut self, i: usize, v: Self::Item) {
         C::put(self, i, v);
     }
-
-    #[inline(always)]
-    fn put_block<R: Source<Item = Self::Item>>(&mut self, source: &R, block: Block) {
-        C::put_block(self, source, block);
-    }
 }
 
 /// The items are read from the source behind the reference.
@@ -70,15 +45,5 @@ impl<R: Source> Source for &R {
     #[inline(always)]
     fn at(&self, i: usize) -> Self::Item {
         R::at(self, i)
-    }
-
-    #[inline(always)]
-    fn as_slice(&self) -> Option<&[Self::Item]> {
-        R::as_slice(self)
-    }
-
-    #[inline(always)]
-    fn expect(&self, i: usize) {
-        R::expect(self, i);
     }
 }

@@ -4,7 +4,8 @@
 
 #[cfg(target_pointer_width = "32")]
 use crate::width::Index as usize;
-use crate::kernels::places::{Block, Cells, Places, Source, len_fits};
+use crate::kernels::places::bulk::{Ahead, Block, Blocked, Tiled};
+use crate::kernels::places::{Cells, Places, Source, len_fits};
 
 /// The places of a mutable slice. All changes are made in the slice itself.
 #[derive(Debug)]
@@ -31,7 +32,9 @@ impl<'a, F> Places for SlicePlaces<'a, F> {
     fn exchange(&mut self, i: usize, j: usize) {
         self.items.swap(i as core::primitive::usize, j as core::primitive::usize);
     }
+}
 
+impl<'a, F> Tiled for SlicePlaces<'a, F> {
     #[inline(always)]
     fn exchange_runs(&mut self, i: usize, j: usize, len: usize) {
         exchange_runs_of_items(self.items, i, j, len);
@@ -71,9 +74,11 @@ impl<'a, T: Copy> Cells for SliceCells<'a, T> {
     fn put(&mut self, i: usize, v: T) {
         self.values[i as core::primitive::usize] = v;
     }
+}
 
+impl<'a, T: Copy> Blocked for SliceCells<'a, T> {
     #[inline(always)]
-    fn put_block<R: Source<Item = T>>(&mut self, source: &R, block: Block) {
+    fn put_block<R: Ahead<Item = T>>(&mut self, source: &R, block: Block) {
         match source.as_slice() {
             Some(items) if block.rows == 4 && block.cols > 0 => put_four(self.values, items, block),
             Some(items) if block.rows == 8 && block.cols > 0 => put_eight(
@@ -212,7 +217,9 @@ impl<'a, T: Copy> Source for SliceSource<'a, T> {
     fn at(&self, i: usize) -> T {
         self.slice[i as core::primitive::usize]
     }
+}
 
+impl<'a, T: Copy> Ahead for SliceSource<'a, T> {
     #[inline(always)]
     fn as_slice(&self) -> Option<&[T]> {
         Some(self.slice)

@@ -3,7 +3,8 @@
 
 use crate::kernels::registers::line_blocks::put_by_lines;
 use crate::kernels::registers::{Register, Runs, put_by_squares};
-use crate::kernels::places::{Block, Cells, Source};
+use crate::kernels::kernel::Block;
+use crate::kernels::places::{Cells, Source};
 
 /// Cells into which runs are put, too.
 pub(crate) trait RunsOfCells<T: Copy, D: Register<T>>: Runs<T, D> + Cells<Item = T> {}
@@ -23,7 +24,7 @@ pub(crate) trait LinesOfCells<T: Copy, D: Register<T>>: RunsOfCells<T, D> {
     fn may_stream_lines(&self, block: Block) -> bool;
 }
 
-/// Does what `Cells::put_block` does: by squares if the block is one that the holder transposes in registers, and otherwise item
+/// Does what `Blocked::put_block` does: by squares if the block is one that the holder transposes in registers, and otherwise item
 /// by item. Registers are read from `runs`, which has the items of the source. A holder may read each run of these, and put each
 /// run that is within a column of the block.
 #[inline(always)]
@@ -48,7 +49,7 @@ pub(crate) fn put_block_in_squares<
     put_singly(cells, source, block);
 }
 
-/// Does what `Cells::put_block` does: by whole lines if the holder may stream the lines of the block, and otherwise item by item.
+/// Does what `Blocked::put_block` does: by whole lines if the holder may stream the lines of the block, and otherwise item by item.
 /// Registers are read from `runs`, which has the items of the source. A holder may read each run of these.
 #[inline(always)]
 pub(crate) fn put_block_in_lines<
@@ -66,7 +67,7 @@ pub(crate) fn put_block_in_lines<
     put_singly(cells, source, block);
 }
 
-/// Does what `Cells::put_block` does: as [`put_block_in_squares`] if there are `runs`, which have the items of the source,
+/// Does what `Blocked::put_block` does: as [`put_block_in_squares`] if there are `runs`, which have the items of the source,
 /// and otherwise item by item.
 #[inline(always)]
 pub(crate) fn put_in_squares_if_runs<
@@ -82,7 +83,7 @@ pub(crate) fn put_in_squares_if_runs<
     }
 }
 
-/// Does what `Cells::put_block` does: as [`put_block_in_lines`] if there are `runs`, which have the items of the source,
+/// Does what `Blocked::put_block` does: as [`put_block_in_lines`] if there are `runs`, which have the items of the source,
 /// and otherwise item by item.
 #[inline(always)]
 pub(crate) fn put_in_lines_if_runs<

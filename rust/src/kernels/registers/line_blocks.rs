@@ -3,7 +3,7 @@
 //! after the other.
 
 use crate::kernels::registers::{Four, Register, Runs, load, load_two, next_stage, starts};
-use crate::kernels::places::Block;
+use crate::kernels::kernel::Block;
 
 /// Reads 8 rows, from place `from` on, and transposes them. The registers hold the columns, of 8 items
 /// each, one after another.
@@ -85,7 +85,7 @@ fn put_four<T, D: Register<T>, S: Runs<T, D>, M: Runs<T, D>>(
     put_line(cells, block, col, a, b);
 }
 
-/// Does what `Cells::put_block` does, for blocks of 4 * `D::SIDE` rows and as many columns, or of one column, column after
+/// Does what `Blocked::put_block` does, for blocks of 4 * `D::SIDE` rows and as many columns, or of one column, column after
 /// column.
 #[inline(always)]
 pub(crate) fn put_by_lines<T, D: Register<T>, S: Runs<T, D>, M: Runs<T, D>>(

@@ -23,7 +23,7 @@
 use crate::width::Index as usize;
 use crate::kernels::bits::{log2_strict_usize, pow2};
 use crate::kernels::grid::{Grid, exchange_square};
-use crate::kernels::places::Places;
+use crate::kernels::places::bulk::Tiled;
 
 /// Rows of `width` items each, whose indices have `digits` binary digits: there are `2^digits`
 /// rows, or none.
@@ -70,20 +70,20 @@ impl RowDigits {
 
 /// The kernel of [`reverse_index_bits_short`](crate::kernels::reverse::reverse_index_bits_short).
 #[inline(always)]
-pub(crate) fn reverse_short<M: Places>(m: M) -> M {
+pub(crate) fn reverse_short<M: Tiled>(m: M) -> M {
     let rows = RowDigits::of(m.len(), 1);
     reverse_rows(m, rows)
 }
 
 /// The kernel of [`reverse_chunks_on`](crate::kernels::reverse::reverse_chunks_on).
 #[inline(always)]
-pub(crate) fn reverse_chunks<M: Places>(m: M, lb_num_chunks: usize, lb_chunk_size: usize) -> M {
+pub(crate) fn reverse_chunks<M: Tiled>(m: M, lb_num_chunks: usize, lb_chunk_size: usize) -> M {
     reverse_rows(m, RowDigits::chunks(lb_num_chunks, lb_chunk_size))
 }
 
 /// The kernel of [`reverse_row_index_bits_on`](crate::kernels::reverse::reverse_row_index_bits_on).
 #[inline(always)]
-pub(crate) fn reverse_rows<M: Places>(m: M, rows: RowDigits) -> M {
+pub(crate) fn reverse_rows<M: Tiled>(m: M, rows: RowDigits) -> M {
     // In the cases with a fixed number of digits, the compiler unrolls the exchanges of all pairs.
     // Each further case would be one more copy of these exchanges. With too many copies, Rattle's
     // compiler no longer inlines this function.
@@ -99,7 +99,7 @@ pub(crate) fn reverse_rows<M: Places>(m: M, rows: RowDigits) -> M {
 /// Exchanges all pairs of rows whose indices are each other's reverse. In each grid this is done by
 /// quadrants or row by row.
 #[inline(always)]
-fn exchange_pairs<M: Places>(m: M, rows: RowDigits, row_by_row: bool) -> M {
+fn exchange_pairs<M: Tiled>(m: M, rows: RowDigits, row_by_row: bool) -> M {
     if rows.digits < 2 {
         return m;
     }
@@ -114,6 +114,6 @@ fn exchange_pairs<M: Places>(m: M, rows: RowDigits, row_by_row: bool) -> M {
 /// Does the same as [`exchange_pairs`], by quadrants, in a function of its own. So a call with few
 /// rows needs no stack frame, which would take longer than its exchanges.
 #[inline(never)]
-pub(crate) fn exchange_pairs_outlined<M: Places>(m: M, rows: RowDigits) -> M {
+pub(crate) fn exchange_pairs_outlined<M: Tiled>(m: M, rows: RowDigits) -> M {
     exchange_pairs(m, rows, false)
 }

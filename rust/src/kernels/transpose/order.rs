@@ -3,7 +3,8 @@
 
 #[cfg(target_pointer_width = "32")]
 use crate::width::Index as usize;
-use crate::kernels::places::{Cells, Source};
+use crate::kernels::places::Source;
+use crate::kernels::places::bulk::{Ahead, Blocked};
 use crate::kernels::transpose::ENOUGH_LEVELS;
 use crate::kernels::transpose::regions::{Matrix, Region};
 use crate::kernels::transpose::split::put_split;
@@ -41,7 +42,7 @@ impl Order<Strips<4, UNIT>> {
 
 impl<S: PutRegion> PutRegion for Order<S> {
     #[inline(always)]
-    fn put<M: Cells, R: Source<Item = M::Item> + Copy>(
+    fn put<M: Blocked, R: Ahead<Item = M::Item> + Copy>(
         self,
         out: M,
         matrix: Matrix<R>,

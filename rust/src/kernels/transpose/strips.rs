@@ -11,7 +11,8 @@
 
 #[cfg(target_pointer_width = "32")]
 use crate::width::Index as usize;
-use crate::kernels::places::{Cells, Source};
+use crate::kernels::places::Source;
+use crate::kernels::places::bulk::{Ahead, Blocked};
 use crate::kernels::transpose::regions::{Matrix, Region};
 use crate::kernels::transpose::ways::{Blocks, Columns, InCols, InRows, Outlined, PutRegion};
 
@@ -80,7 +81,7 @@ impl Strips<4, UNIT> {
 }
 
 impl<const SIDE: usize, const ROWS: usize> PutRegion for Strips<SIDE, ROWS> {
-    fn put<M: Cells, R: Source<Item = M::Item> + Copy>(
+    fn put<M: Blocked, R: Ahead<Item = M::Item> + Copy>(
         self,
         out: M,
         matrix: Matrix<R>,
@@ -109,7 +110,7 @@ struct Squares<const SIDE: usize>;
 
 impl<const SIDE: usize> PutRegion for Squares<SIDE> {
     #[inline(never)]
-    fn put<M: Cells, R: Source<Item = M::Item> + Copy>(
+    fn put<M: Blocked, R: Ahead<Item = M::Item> + Copy>(
         self,
         out: M,
         matrix: Matrix<R>,

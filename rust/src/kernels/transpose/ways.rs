@@ -17,7 +17,7 @@
 
 #[cfg(target_pointer_width = "32")]
 use crate::width::Index as usize;
-use crate::kernels::places::{Block, Cells, Source};
+use crate::kernels::places::bulk::{Ahead, Block, Blocked};
 use crate::kernels::transpose::regions::{Matrix, Region};
 
 /// A column is put by loops over this many items each. The compiler knows how long these loops are.
@@ -27,7 +27,17 @@ const COLUMN_ITEMS: usize = 8;
 /// them.
 pub(crate) trait PutRegion: Copy {
     /// Puts `region` in this way.
-    fn put<M: Cells, R: Source<Item = M::Item> + Copy>(
+    ///
+    /// # Contract
+    ///
+    /// ```text
+    /// requires ready { IsReady region matrix.width matrix.height
+    ///     (R.items matrix.source) (M.items out) }
+    /// ensures transposed { IsRegionTransposed region matrix.width matrix.height
+    ///     (R.items matrix.source) (M.items out) (M.items result) }
+    /// ensures holder { M.same_holder (items_of region) out result }
+    /// ```
+    fn put<M: Blocked, R: Ahead<Item = M::Item> + Copy>(
         self,
         out: M,
         matrix: Matrix<R>,
@@ -42,7 +52,7 @@ pub(crate) struct InRows<const ROWS: usize, W, V>(pub W, pub V);
 
 impl<const ROWS: usize, W: PutRegion, V: PutRegion> PutRegion for InRows<ROWS, W, V> {
     #[inline(always)]
-    fn put<M: Cells, R: Source<Item = M::Item> + Copy>(
+    fn put<M: Blocked, R: Ahead<Item = M::Item> + Copy>(
         self,
         out: M,
         matrix: Matrix<R>,
@@ -73,7 +83,7 @@ pub(crate) struct InCols<const COLS: usize, W, V>(pub W, pub V);
 
 impl<const COLS: usize, W: PutRegion, V: PutRegion> PutRegion for InCols<COLS, W, V> {
     #[inline(always)]
-    fn put<M: Cells, R: Source<Item = M::Item> + Copy>(
+    fn put<M: Blocked, R: Ahead<Item = M::Item> + Copy>(
         self,
         out: M,
         matrix: Matrix<R>,
@@ -102,7 +112,7 @@ pub(crate) struct Blocks<const ROWS: usize, V>(pub V);
 
 impl<const ROWS: usize, V: PutRegion> PutRegion for Blocks<ROWS, V> {
     #[inline(always)]
-    fn put<M: Cells, R: Source<Item = M::Item> + Copy>(
+    fn put<M: Blocked, R: Ahead<Item = M::Item> + Copy>(
         self,
         out: M,
         matrix: Matrix<R>,
@@ -140,7 +150,7 @@ pub(crate) enum RowBlocks {
 
 impl PutRegion for RowBlocks {
     #[inline(always)]
-    fn put<M: Cells, R: Source<Item = M::Item> + Copy>(
+    fn put<M: Blocked, R: Ahead<Item = M::Item> + Copy>(
         self,
         out: M,
         matrix: Matrix<R>,
@@ -161,7 +171,7 @@ pub(crate) struct Outlined<W>(pub W);
 
 impl<W: PutRegion> PutRegion for Outlined<W> {
     #[inline(never)]
-    fn put<M: Cells, R: Source<Item = M::Item> + Copy>(
+    fn put<M: Blocked, R: Ahead<Item = M::Item> + Copy>(
         self,
         out: M,
         matrix: Matrix<R>,
@@ -172,8 +182,20 @@ impl<W: PutRegion> PutRegion for Outlined<W> {
 }
 
 /// Puts a region as one block, in the holder's own way.
+///
+/// # Contract
+///
+/// ```text
+/// requires some_rows { region.row_start < region.row_end }
+/// requires some_cols { region.col_start < region.col_end }
+/// requires ready { IsReady region matrix.width matrix.height
+///     (R.items matrix.source) (M.items out) }
+/// ensures transposed { IsRegionTransposed region matrix.width matrix.height
+///     (R.items matrix.source) (M.items out) (M.items result) }
+/// ensures holder { M.same_holder (items_of region) out result }
+/// ```
 #[inline(always)]
-pub(crate) fn put_as_block<M: Cells, R: Source<Item = M::Item> + Copy>(
+pub(crate) fn put_as_block<M: Blocked, R: Ahead<Item = M::Item> + Copy>(
     out: M,
     matrix: Matrix<R>,
     region: Region,
@@ -202,7 +224,7 @@ pub(crate) struct Columns;
 
 impl PutRegion for Columns {
     #[inline(always)]
-    fn put<M: Cells, R: Source<Item = M::Item> + Copy>(
+    fn put<M: Blocked, R: Ahead<Item = M::Item> + Copy>(
         self,
         out: M,
         matrix: Matrix<R>,
@@ -229,7 +251,7 @@ pub(crate) struct ShortColumns;
 
 impl PutRegion for ShortColumns {
     #[inline(always)]
-    fn put<M: Cells, R: Source<Item = M::Item> + Copy>(
+    fn put<M: Blocked, R: Ahead<Item = M::Item> + Copy>(
         self,
         out: M,
         matrix: Matrix<R>,
@@ -252,8 +274,17 @@ impl PutRegion for ShortColumns {
 /// Puts a column of `rows` items into consecutive cells from `to` on. The column begins at index
 /// `from` of the source. Most items are put by loops of `COLUMN_ITEMS` items, and the rest by one
 /// more loop.
+///
+/// # Contract
+///
+/// ```text
+/// requires column { HoldsColumn rows from matrix.width to (R.items matrix.source) (M.items out) }
+/// ensures put { IsColumnPut rows from matrix.width to (R.items matrix.source) (M.items out)
+///     (M.items result) }
+/// ensures holder { M.same_holder rows out result }
+/// ```
 #[inline(always)]
-fn put_column<M: Cells, R: Source<Item = M::Item> + Copy>(
+fn put_column<M: Blocked, R: Ahead<Item = M::Item> + Copy>(
     out: M,
     matrix: Matrix<R>,
     from: usize,
@@ -285,8 +316,17 @@ fn put_column<M: Cells, R: Source<Item = M::Item> + Copy>(
 }
 
 /// Does the same as [`put_column`], in one loop.
+///
+/// # Contract
+///
+/// ```text
+/// requires column { HoldsColumn rows from matrix.width to (R.items matrix.source) (M.items out) }
+/// ensures put { IsColumnPut rows from matrix.width to (R.items matrix.source) (M.items out)
+///     (M.items result) }
+/// ensures holder { M.same_holder rows out result }
+/// ```
 #[inline(always)]
-fn put_items<M: Cells, R: Source<Item = M::Item> + Copy>(
+fn put_items<M: Blocked, R: Ahead<Item = M::Item> + Copy>(
     out: M,
     matrix: Matrix<R>,
     from: usize,

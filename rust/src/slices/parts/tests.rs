@@ -6,10 +6,11 @@ use std::collections::BTreeSet;
 use std::vec::Vec;
 
 use super::{one_part_reversal, ranges_if_cut, row_reversal, transpose};
+use crate::kernels::kernel::Tiled;
 use crate::kernels::lines::Lines;
 use crate::kernels::parts::numbers::Plan;
 use crate::kernels::parts::{Cut, RowPairs, TransposePlan};
-use crate::kernels::places::{Places, SliceCells, SlicePlaces, SliceSource};
+use crate::kernels::places::{SliceCells, SlicePlaces, SliceSource, Writes};
 use crate::kernels::reverse::{RowDigits, reverse_rows};
 use crate::kernels::transpose::{Columns, Matrix, Order, PutRegion, Strips};
 use crate::slices::tests::Noted;
@@ -56,7 +57,8 @@ fn check_matrix(width: usize, height: usize, parts: usize, may_cut_rows: bool) {
         let is_inside = (from..to).contains(if by_rows { &y } else { &x });
         if is_inside { input[y * width + x] } else { place }
     };
-    let count = |put: &dyn Fn(&mut Noted, usize)| {
+    let count = |put: &dyn Fn(Writes<&mut Noted>, usize)| {
+        let put = |noted: &mut Noted, number| put(Writes::new(noted), number);
         let puts = check_parts(len, plan.count(), put, wanted);
         assert_eq!(puts, len, "{width} by {height} in {parts} parts");
     };
@@ -104,7 +106,7 @@ fn item<const N: usize>(number: usize) -> [u8; N] {
 fn exchange_by_plan<const N: usize, const WIDTH: usize>(rows: &mut [[[u8; N]; WIDTH]], asked: usize, number: usize) {
     let len = rows.len() * WIDTH;
     let is_cut = len > one_part_reversal::<[u8; N]>();
-    fn exchange(places: impl Places, width: usize, parts: usize, is_cut: bool, number: usize) {
+    fn exchange(places: impl Tiled, width: usize, parts: usize, is_cut: bool, number: usize) {
         let len = places.len();
         if is_cut {
             let _ = RowPairs::new(len, width, parts).exchange_patch(places, number);

@@ -6,7 +6,8 @@ use std::array::from_fn;
 use std::ptr::null_mut;
 
 use super::super::{SliceItems, SliceSource, USES_REGISTERS};
-use crate::kernels::places::{Block, Cells, Places, Source};
+use crate::kernels::kernel::{Ahead, Block, Blocked, Tiled};
+use crate::kernels::places::{Cells, Places, Source};
 use crate::kernels::registers::blocks::SquaresOfCells;
 use crate::kernels::registers::{Pair, Register, Two};
 use crate::slices::parts::{TransposePart, transpose};
@@ -134,7 +135,7 @@ fn steps<const N: usize>() {
 /// Exchanges and transposes tiles, and puts blocks.
 fn squares<const N: usize, H>(ends_with_page: bool)
 where
-    H: for<'a> Hold<'a, [u8; N], Holder: Cells<Item = [u8; N]>>,
+    H: for<'a> Hold<'a, [u8; N], Holder: Blocked<Item = [u8; N]>>,
 {
     let mut tiles = Runs::<N>::new(16, 8, ends_with_page);
     let row = |number: usize| number * 7 % 16;

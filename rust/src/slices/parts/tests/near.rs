@@ -3,8 +3,9 @@
 use super::super::TransposePart;
 use crate::kernels::calls::Output;
 use crate::kernels::choice::Limits;
+use crate::kernels::kernel::{Ahead, Block, Blocked};
 use crate::kernels::part::transpose_part;
-use crate::kernels::places::{Block, Cells, Source};
+use crate::kernels::places::Cells;
 #[cfg(not(feature = "checked"))]
 use crate::kernels::registers::{Pair, Two};
 use crate::kernels::transpose::{Matrix, PutRegion, Region};
@@ -26,8 +27,10 @@ impl<H: Cells> Cells for Near<H> {
     fn put(&mut self, i: usize, v: H::Item) {
         self.0.put(i, v);
     }
+}
 
-    fn put_block<R: Source<Item = H::Item>>(&mut self, source: &R, block: Block) {
+impl<H: Blocked> Blocked for Near<H> {
+    fn put_block<R: Ahead<Item = H::Item>>(&mut self, source: &R, block: Block) {
         self.0.put_block(source, block);
     }
 }
@@ -47,11 +50,11 @@ impl<H: Output> Output for Near<H> {
         self.0.address()
     }
 
-    fn copy<R: Source<Item = H::Item> + Copy>(self, source: R) -> Self {
+    fn copy<R: Ahead<Item = H::Item> + Copy>(self, source: R) -> Self {
         Near(self.0.copy(source))
     }
 
-    fn put_past_caches<W: PutRegion, R: Source<Item = H::Item> + Copy>(
+    fn put_past_caches<W: PutRegion, R: Ahead<Item = H::Item> + Copy>(
         self,
         way: W,
         matrix: Matrix<R>,

@@ -1,6 +1,6 @@
 -- The columns of the block are put from the first to the last.
 use Rattle.std.proofs.Common.{◌≡◌, ℕ, ◌+◌, ◌*◌, List, inl, inr, arith}
-use Rattle.p3_util_kernels.specs.declared.places.Block.{Block}
+use Rattle.p3_util_kernels.specs.declared.places.bulk.Block.{Block}
 use Rattle.p3_util_registers.specs.Registers.{ColumnsPut}
 use Rattle.p3_util_registers.proofs.RegistersBlocks.{ColumnsPut-joined, IsBlockPut-whole}
 use Rattle.p3_util_registers.proofs.RegistersSteps.{four_times}

@@ -1,7 +1,7 @@
 -- Each turn of the loop exchanges one more pair of places.
 use Rattle.std.proofs.Common.{inl, inr, refl, arith}
 use Rattle.p3_util_kernels.proofs.PlacesLemmas.Runs.{RunsExchanged-joined, RunsExchanged-one}
-use Rattle.p3_util_kernels.proofs.places.Places.exchange_runs.Goals as goal
+use Rattle.p3_util_kernels.proofs.places.bulk.Tiled.exchange_runs.Goals as goal
 
 pub loop-t-preserved : goal.loop-t-preserved
 loop-t-preserved g c = record {

@@ -1,5 +1,5 @@
 use Rattle.p3_util_kernels.specs.Exchanged.{RunsExchanged}
-use Rattle.p3_util_kernels.proofs.places.Places.exchange_runs.Given as goal
+use Rattle.p3_util_kernels.proofs.places.bulk.Tiled.exchange_runs.Given as goal
 
 -- the first t items of the runs are exchanged
 abbrev pub invariant-loop-t : goal.invariant-loop-t
