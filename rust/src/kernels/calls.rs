@@ -5,11 +5,11 @@
 #[cfg(target_pointer_width = "32")]
 use crate::width::Index as usize;
 use crate::kernels::choice::{
-    FAR_COLUMNS, LONG_BYTES, Limits, SHORT_COLUMN, few_items_of, has_lines, is_far, row_blocks_of,
-    side_of, strips_of,
+    FAR_COLUMNS, LONG_BYTES, Limits, SHORT_COLUMN, STREAMED_ROWS, few_items_of, has_lines, is_far,
+    is_streamed, row_blocks_of, side_of, strips_of,
 };
 use crate::kernels::kernel::{
-    Ahead, Blocked, Blocks, Columns, InCols, InRows, LARGE_MATRIX, Matrix, Order, PutRegion,
+    Ahead, Blocked, Blocks, Columns, InCols, InRows, LARGE_MATRIX, Matrix, Order, Outlined, PutRegion,
     RowDigits, ShortColumns, Tiled, UNIT, put_as_block, reverse_short,
 };
 use crate::kernels::places::{Cells, Source};
@@ -43,10 +43,10 @@ pub(crate) trait Output: Blocked {
     /// The side of the squares of items that the holder transposes in registers, or 1.
     const SIDE: usize = side_of(Self::SIZE, Self::HAS_REGISTERS, Self::IS_X86_64);
 
-    /// Whether the holder can store whole lines past the caches.
+    /// Whether the holder can store items past the caches.
     const HAS_LINES: bool = has_lines(Self::SIZE, Self::HAS_REGISTERS, Self::IS_X86_64);
 
-    /// From how many bytes on lines are put.
+    /// From how many bytes on items are put past the caches.
     fn limits() -> Limits {
         Limits::of_users()
     }
@@ -57,28 +57,11 @@ pub(crate) trait Output: Blocked {
     }
 
     /// Puts all items of a list of the same length, in the same order.
-    ///
-    /// # Contract
-    ///
-    /// ```text
-    /// requires { length (R.items source) ≡ length (Self.items self) }
-    /// ensures copied { Self.items result ≡ R.items source }
-    /// ensures holder { Self.same_holder (length (Self.items self)) self result }
-    /// ```
     fn copy<R: Ahead<Item = Self::Item> + Copy>(self, source: R) -> Self
     where
         Self: Sized,;
 
-    /// Puts a region in this way. The holder may store whole lines past the caches until it returns.
-    ///
-    /// # Contract
-    ///
-    /// ```text
-    /// requires { IsReady region matrix.width matrix.height (R.items matrix.source) (Self.items self) }
-    /// ensures transposed { IsRegionTransposed region matrix.width matrix.height
-    ///     (R.items matrix.source) (Self.items self) (Self.items result) }
-    /// ensures holder { Self.same_holder (items_of region) self result }
-    /// ```
+    /// Puts a region in this way. The holder may store whole lines, or items of 32 bytes and more, past the caches until it returns.
     fn put_past_caches<W: PutRegion, R: Ahead<Item = Self::Item> + Copy>(
         self,
         way: W,
@@ -94,15 +77,6 @@ pub(crate) trait Output: Blocked {
 
 /// Transposes a matrix. A user's crate has this, and without debug assertions puts columns itself, since a call would take as
 /// long. The calls have single arguments and no matrix, so that all are in registers and need no room on the stack.
-///
-/// # Contract
-///
-/// ```text
-/// requires input_fits { length (R.items source) ≡ width * height }
-/// requires output_fits { length (M.items cells) ≡ width * height }
-/// ensures order { IsTranspose width height (R.items source) (M.items result) }
-/// ensures holder { M.same_holder (width * height) cells result }
-/// ```
 #[inline(always)]
 pub(crate) fn transpose_whole<M: Output, R: Ahead<Item = M::Item> + Copy>(
     cells: M,
@@ -133,16 +107,6 @@ pub(crate) fn transpose_whole<M: Output, R: Ahead<Item = M::Item> + Copy>(
 }
 
 /// Transposes a matrix of few items.
-///
-/// # Contract
-///
-/// ```text
-/// requires input_fits { length (R.items source) ≡ width * height }
-/// requires output_fits { length (M.items cells) ≡ width * height }
-/// requires len_fits { length (R.items source) < 2 ^ 64 }
-/// ensures order { IsTranspose width height (R.items source) (M.items result) }
-/// ensures holder { M.same_holder (width * height) cells result }
-/// ```
 #[inline(always)]
 fn transpose_tiny<M: Output, R: Ahead<Item = M::Item> + Copy>(
     cells: M,
@@ -162,16 +126,6 @@ fn transpose_tiny<M: Output, R: Ahead<Item = M::Item> + Copy>(
 }
 
 /// Does the same as [`transpose_tiny`]. With debug assertions, a user's crate is often not optimized, and the package may be.
-///
-/// # Contract
-///
-/// ```text
-/// requires input_fits { length (R.items source) ≡ width * height }
-/// requires output_fits { length (M.items cells) ≡ width * height }
-/// requires len_fits { length (R.items source) < 2 ^ 64 }
-/// ensures order { IsTranspose width height (R.items source) (M.items result) }
-/// ensures holder { M.same_holder (width * height) cells result }
-/// ```
 #[inline(never)]
 fn transpose_tiny_apart<M: Output, R: Ahead<Item = M::Item> + Copy>(
     cells: M,
@@ -183,17 +137,6 @@ fn transpose_tiny_apart<M: Output, R: Ahead<Item = M::Item> + Copy>(
 }
 
 /// Transposes a matrix of one block, in the holder's own way. The side is a constant, and with it the distance of its rows.
-///
-/// # Contract
-///
-/// ```text
-/// requires some { 0 < SIDE }
-/// requires input_fits { length (R.items source) ≡ SIDE * SIDE }
-/// requires output_fits { length (M.items cells) ≡ SIDE * SIDE }
-/// requires len_fits { length (R.items source) < 2 ^ 64 }
-/// ensures order { IsTranspose SIDE SIDE (R.items source) (M.items result) }
-/// ensures holder { M.same_holder (SIDE * SIDE) cells result }
-/// ```
 #[inline(never)]
 fn transpose_block<const SIDE: usize, M: Output, R: Ahead<Item = M::Item> + Copy>(
     cells: M,
@@ -205,15 +148,6 @@ fn transpose_block<const SIDE: usize, M: Output, R: Ahead<Item = M::Item> + Copy
 }
 
 /// Transposes a matrix that is neither copied nor one block, and has many items or long ones.
-///
-/// # Contract
-///
-/// ```text
-/// requires input_fits { length (R.items source) ≡ width * height }
-/// requires output_fits { length (M.items cells) ≡ width * height }
-/// ensures order { IsTranspose width height (R.items source) (M.items result) }
-/// ensures holder { M.same_holder (width * height) cells result }
-/// ```
 #[inline(never)]
 fn transpose_apart<M: Output, R: Ahead<Item = M::Item> + Copy>(
     cells: M,
@@ -227,16 +161,7 @@ fn transpose_apart<M: Output, R: Ahead<Item = M::Item> + Copy>(
     put_region(cells, matrix, whole, is_large)
 }
 
-/// Puts a region of a matrix. If it `is_large`, it is put by lines or by leaves.
-///
-/// # Contract
-///
-/// ```text
-/// requires { IsReady region matrix.width matrix.height (R.items matrix.source) (M.items cells) }
-/// ensures transposed { IsRegionTransposed region matrix.width matrix.height
-///     (R.items matrix.source) (M.items cells) (M.items result) }
-/// ensures holder { M.same_holder (items_of region) cells result }
-/// ```
+/// Puts a region of a matrix. If it `is_large`, and is not put past the caches, it is put by leaves.
 #[inline(always)]
 fn put_region<M: Output, R: Ahead<Item = M::Item> + Copy>(
     cells: M,
@@ -245,7 +170,8 @@ fn put_region<M: Output, R: Ahead<Item = M::Item> + Copy>(
     is_large: bool,
 ) -> M {
     let (size, width, height) = (M::SIZE, matrix.width, matrix.height);
-    if M::HAS_LINES && is_large && M::limits().fit(size, matrix, region, cells.address()) {
+    let may_be_large = is_large || is_streamed(size);
+    if M::HAS_LINES && may_be_large && M::limits().fit(size, matrix, region, cells.address()) {
         return put_by_lines(cells, matrix, region);
     }
     if M::IS_LONG {
@@ -273,7 +199,7 @@ fn put_region<M: Output, R: Ahead<Item = M::Item> + Copy>(
     }
 }
 
-/// The order of a region that is not put by lines.
+/// The order of a region that is not put past the caches.
 #[inline(always)]
 fn order_of<S: PutRegion>(is_large: bool, strips: S) -> Order<S> {
     if is_large {
@@ -283,16 +209,7 @@ fn order_of<S: PutRegion>(is_large: bool, strips: S) -> Order<S> {
     }
 }
 
-/// Puts a region by cache lines of the output, past the caches.
-///
-/// # Contract
-///
-/// ```text
-/// requires { IsReady region matrix.width matrix.height (R.items matrix.source) (M.items cells) }
-/// ensures transposed { IsRegionTransposed region matrix.width matrix.height
-///     (R.items matrix.source) (M.items cells) (M.items result) }
-/// ensures holder { M.same_holder (items_of region) cells result }
-/// ```
+/// Puts a region past the caches: by cache lines of the output, or in low strips.
 #[inline(never)]
 fn put_by_lines<M: Output, R: Ahead<Item = M::Item> + Copy>(
     cells: M,
@@ -305,7 +222,11 @@ fn put_by_lines<M: Output, R: Ahead<Item = M::Item> + Copy>(
             let lines = Lines::new(LINE / size, cells.address() % LINE / size);
             cells.put_past_caches(lines, matrix, region)
         }
-        _ => Columns.put(cells, matrix, region),
+        _ => {
+            let columns = Outlined(Columns);
+            let strips = InRows::<STREAMED_ROWS, _, _>(columns, columns);
+            cells.put_past_caches(strips, matrix, region)
+        }
     }
 }
 
@@ -336,15 +257,6 @@ impl PutRegion for LongColumns {
 }
 
 /// Puts a column of `rows` items into consecutive cells from `to` on. The column begins at index `from` of the source.
-///
-/// # Contract
-///
-/// ```text
-/// requires column { HoldsColumn rows from matrix.width to (R.items matrix.source) (M.items out) }
-/// ensures put { IsColumnPut rows from matrix.width to (R.items matrix.source) (M.items out)
-///     (M.items result) }
-/// ensures holder { M.same_holder rows out result }
-/// ```
 fn put_long_column<M: Cells, R: Source<Item = M::Item> + Copy>(
     out: M,
     matrix: Matrix<R>,
@@ -362,17 +274,6 @@ fn put_long_column<M: Cells, R: Source<Item = M::Item> + Copy>(
 }
 
 /// Puts the item at index `from` of a source into cell `to`.
-///
-/// # Contract
-///
-/// ```text
-/// requires from { from < length (R.items source) }
-/// requires to { to < length (M.items out.old) }
-/// ensures same_length { length (M.items out.new) ≡ length (M.items out.old) }
-/// ensures put { slice_get (M.items out.new) to ≡ slice_get (R.items source) from }
-/// ensures others { (p : ℕ) → p ≢ to → slice_get (M.items out.new) p ≡ slice_get (M.items out.old) p }
-/// ensures holder { M.same_holder 1 out.old out.new }
-/// ```
 #[inline(never)]
 fn put_item<M: Cells, R: Source<Item = M::Item> + Copy>(
     out: &mut M,
@@ -384,15 +285,6 @@ fn put_item<M: Cells, R: Source<Item = M::Item> + Copy>(
 }
 
 /// Puts a region of a matrix. One that is the whole matrix is put as a whole call.
-///
-/// # Contract
-///
-/// ```text
-/// requires { IsReady region matrix.width matrix.height (R.items matrix.source) (M.items cells) }
-/// ensures transposed { IsRegionTransposed region matrix.width matrix.height
-///     (R.items matrix.source) (M.items cells) (M.items result) }
-/// ensures holder { M.same_holder (items_of region) cells result }
-/// ```
 #[inline(always)]
 pub(crate) fn transpose_region<M: Output, R: Ahead<Item = M::Item> + Copy>(
     cells: M,
@@ -407,28 +299,12 @@ pub(crate) fn transpose_region<M: Output, R: Ahead<Item = M::Item> + Copy>(
 }
 
 /// Reverses the order of items by index bits.
-///
-/// # Contract
-///
-/// ```text
-/// requires { IsReversible (length (M.items items)) }
-/// ensures order { IsReversal (M.items items) (M.items result) }
-/// ensures holder { M.same_holder (short_swaps (clog (length (M.items items)))) items result }
-/// ```
 #[inline(always)]
 pub(crate) fn reverse<M: Tiled>(items: M) -> M {
     reverse_short(items)
 }
 
 /// Reverses the order of rows of `row_width` items by index bits.
-///
-/// # Contract
-///
-/// ```text
-/// requires { FitsRows (length (M.items items)) row_width }
-/// ensures order { IsRowReversal row_width (M.items items) (M.items result) }
-/// ensures holder { M.same_holder (row_swaps (length (M.items items)) row_width) items result }
-/// ```
 #[inline(always)]
 pub(crate) fn reverse_rows<M: Tiled>(items: M, row_width: usize) -> M {
     let rows = RowDigits::of(items.len(), row_width);

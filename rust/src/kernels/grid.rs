@@ -58,14 +58,6 @@ struct RowDistances {
 
 impl Grid {
     /// The place at which row `x` begins.
-    ///
-    /// # Contract
-    ///
-    /// ```text
-    /// requires fits { PlacesFit self }
-    /// requires below { x < 2 ^ self.digits }
-    /// ensures { result ≡ row_place self x }
-    /// ```
     #[inline(always)]
     fn start(self, x: usize) -> usize {
         let row = if self.reversed {
@@ -77,14 +69,6 @@ impl Grid {
     }
 
     /// How far apart the rows of a tile begin.
-    ///
-    /// # Contract
-    ///
-    /// ```text
-    /// requires fits { PlacesFit self }
-    /// requires some { 8 ≤ 2 ^ self.digits }
-    /// ensures { AreRowDistances self result }
-    /// ```
     #[inline(always)]
     fn row_distances(self) -> RowDistances {
         if self.reversed {
@@ -105,15 +89,6 @@ impl Grid {
 
     /// The places of one column in the 8 rows of a tile. `first` is the place in the first of these
     /// rows.
-    ///
-    /// # Contract
-    ///
-    /// ```text
-    /// requires fits { PlacesFit self }
-    /// requires tile { IsInFirstRow self first }
-    /// ensures { (x y : ℕ) → x % 8 ≡ 0 → x + 8 ≤ 2 ^ self.digits → first ≡ row_place self x + y
-    ///     → (t : ℕ) → t < 8 → slice_index result t ≡ row_place self (x + t) + y }
-    /// ```
     #[inline(always)]
     fn tile_rows(self, first: usize) -> [usize; 8] {
         // If 8 divides `x`, row `x + t` begins as far from row `x` as these distances say, one for each
@@ -134,17 +109,6 @@ impl Grid {
 }
 
 /// Exchanges the runs of `width` items with the indices `i` and `j`.
-///
-/// # Contract
-///
-/// ```text
-/// requires apart { i ≢ j }
-/// requires first { i * width + width ≤ length (M.items m) }
-/// requires second { j * width + width ≤ length (M.items m) }
-/// requires len_fits { length (M.items m) < 2 ^ 64 }
-/// ensures exchanged { RunsExchanged (i * width) (j * width) width (M.items m) (M.items result) }
-/// ensures holder { M.same_holder width m result }
-/// ```
 #[inline(always)]
 fn exchange_places<M: Tiled>(m: M, width: usize, i: usize, j: usize) -> M {
     let mut m = m;
@@ -158,18 +122,6 @@ fn exchange_places<M: Tiled>(m: M, width: usize, i: usize, j: usize) -> M {
 
 /// Exchanges places of row `row` with their mirror images. These are the places in the columns of
 /// `region`, which are to the right of the diagonal.
-///
-/// # Contract
-///
-/// ```text
-/// requires cols_in_order { region.col_start ≤ region.col_end }
-/// requires above { row < region.col_start }
-/// requires within { region.col_end ≤ 2 ^ grid.digits }
-/// requires ready { HoldsGrid grid (M.items m) }
-/// ensures exchanged { SwapsInGrid grid
-///     (record region { row_start = row; row_end = row + 1 }) (M.items m) (M.items result) }
-/// ensures holder { M.same_holder (grid.width * cols_of region) m result }
-/// ```
 #[inline(always)]
 fn exchange_row<M: Tiled>(m: M, grid: Grid, row: usize, region: Region) -> M {
     let first = grid.start(row);
@@ -181,22 +133,6 @@ fn exchange_row<M: Tiled>(m: M, grid: Grid, row: usize, region: Region) -> M {
 }
 
 /// Exchanges the tiles of a region that lie in the 8 columns from `col` on with their mirror images.
-///
-/// # Contract
-///
-/// ```text
-/// requires one { grid.width ≡ 1 }
-/// requires rows_in_order { region.row_start ≤ region.row_end }
-/// requires whole_start { region.row_start % 8 ≡ 0 }
-/// requires whole_end { region.row_end % 8 ≡ 0 }
-/// requires whole_col { col % 8 ≡ 0 }
-/// requires above { region.row_end ≤ col }
-/// requires within { col + 8 ≤ 2 ^ grid.digits }
-/// requires ready { HoldsGrid grid (M.items m) }
-/// ensures exchanged { SwapsInGrid grid (record region { col_start = col; col_end = col + 8 })
-///     (M.items m) (M.items result) }
-/// ensures holder { M.same_holder ((region.row_end - region.row_start) * 8) m result }
-/// ```
 #[inline(always)]
 fn exchange_tile_column<M: Tiled>(m: M, grid: Grid, col: usize, region: Region) -> M {
     let start = grid.start(col);
@@ -217,23 +153,6 @@ fn exchange_tile_column<M: Tiled>(m: M, grid: Grid, col: usize, region: Region) 
 }
 
 /// Exchanges a region above the diagonal with its mirror image, tile by tile.
-///
-/// # Contract
-///
-/// ```text
-/// requires one { grid.width ≡ 1 }
-/// requires rows_in_order { region.row_start ≤ region.row_end }
-/// requires cols_in_order { region.col_start ≤ region.col_end }
-/// requires whole_row_start { region.row_start % 8 ≡ 0 }
-/// requires whole_row_end { region.row_end % 8 ≡ 0 }
-/// requires whole_col_start { region.col_start % 8 ≡ 0 }
-/// requires whole_col_end { region.col_end % 8 ≡ 0 }
-/// requires above { region.row_end ≤ region.col_start }
-/// requires within { region.col_end ≤ 2 ^ grid.digits }
-/// requires ready { HoldsGrid grid (M.items m) }
-/// ensures exchanged { SwapsInGrid grid region (M.items m) (M.items result) }
-/// ensures holder { M.same_holder (items_of region) m result }
-/// ```
 #[inline(always)]
 fn exchange_leaf_tiles<M: Tiled>(m: M, grid: Grid, region: Region) -> M {
     let mut m = m;
@@ -245,18 +164,6 @@ fn exchange_leaf_tiles<M: Tiled>(m: M, grid: Grid, region: Region) -> M {
 
 /// Exchanges a region above the diagonal with its mirror image, without cutting the region: tile by
 /// tile if the region consists of tiles, and otherwise row after row.
-///
-/// # Contract
-///
-/// ```text
-/// requires rows_in_order { region.row_start ≤ region.row_end }
-/// requires cols_in_order { region.col_start ≤ region.col_end }
-/// requires above { region.row_end ≤ region.col_start }
-/// requires within { region.col_end ≤ 2 ^ grid.digits }
-/// requires ready { HoldsGrid grid (M.items m) }
-/// ensures exchanged { SwapsInGrid grid region (M.items m) (M.items result) }
-/// ensures holder { M.same_holder (grid.width * items_of region) m result }
-/// ```
 #[inline(always)]
 fn exchange_leaf<M: Tiled>(m: M, grid: Grid, region: Region) -> M {
     let whole_rows = region.row_start % TILE == 0 && region.row_end % TILE == 0;
@@ -274,18 +181,6 @@ fn exchange_leaf<M: Tiled>(m: M, grid: Grid, region: Region) -> M {
 /// Exchanges a region above the diagonal with its mirror image. A region that is not a leaf is cut
 /// in half at its longer side. The calls nest at most as deep as the sides can be halved until
 /// neither is longer than `LEAF`. The proof that the calls end counts these levels.
-///
-/// # Contract
-///
-/// ```text
-/// requires rows_in_order { region.row_start ≤ region.row_end }
-/// requires cols_in_order { region.col_start ≤ region.col_end }
-/// requires above { region.row_end ≤ region.col_start }
-/// requires within { region.col_end ≤ 2 ^ grid.digits }
-/// requires ready { HoldsGrid grid (M.items m) }
-/// ensures exchanged { SwapsInGrid grid region (M.items m) (M.items result) }
-/// ensures holder { M.same_holder (grid.width * items_of region) m result }
-/// ```
 pub(crate) fn exchange_region<M: Tiled>(m: M, grid: Grid, region: Region) -> M {
     let (rows, cols) = (region.rows(), region.cols());
     if rows <= LEAF && cols <= LEAF {
@@ -303,16 +198,6 @@ pub(crate) fn exchange_region<M: Tiled>(m: M, grid: Grid, region: Region) -> M {
 
 /// Half of `size`, rounded up to whole tiles. The rest is not greater. So a side of at most
 /// `8 * 2^d` is cut into two sides of at most `8 * 2^(d - 1)`.
-///
-/// # Contract
-///
-/// ```text
-/// requires { 8 < size }
-/// ensures whole { result % 8 ≡ 0 }
-/// ensures half { size ≤ 2 * result }
-/// ensures up { 2 * result < size + 16 }
-/// ensures below { result < size }
-/// ```
 #[inline(always)]
 fn upper_half(size: usize) -> usize {
     (size - 1) / (2 * TILE) * TILE + TILE
@@ -321,15 +206,6 @@ fn upper_half(size: usize) -> usize {
 /// Exchanges the items above the diagonal with their mirror images in a smaller square inside
 /// `grid`: the one with the `size` rows and the `size` columns from `start` on. This is done row
 /// after row.
-///
-/// # Contract
-///
-/// ```text
-/// requires within { start + size ≤ 2 ^ grid.digits }
-/// requires ready { HoldsGrid grid (M.items m) }
-/// ensures exchanged { SwapsInGrid grid (square_at start size) (M.items m) (M.items result) }
-/// ensures holder { M.same_holder (grid.width * square_swaps size) m result }
-/// ```
 #[inline(always)]
 fn exchange_on_diagonal<M: Tiled>(m: M, grid: Grid, start: usize, size: usize) -> M {
     let end = start + size;
@@ -347,16 +223,6 @@ fn exchange_on_diagonal<M: Tiled>(m: M, grid: Grid, start: usize, size: usize) -
 }
 
 /// Does the same as [`exchange_on_diagonal`], for a tile.
-///
-/// # Contract
-///
-/// ```text
-/// requires whole { start % 8 ≡ 0 }
-/// requires within { start + 8 ≤ 2 ^ grid.digits }
-/// requires ready { HoldsGrid grid (M.items m) }
-/// ensures exchanged { SwapsInGrid grid (square_at start 8) (M.items m) (M.items result) }
-/// ensures holder { M.same_holder (grid.width * square_swaps 8) m result }
-/// ```
 #[inline(always)]
 fn exchange_diagonal_tile<M: Tiled>(m: M, grid: Grid, start: usize) -> M {
     let places = grid.tile_rows(grid.start(start) + start);
@@ -375,15 +241,6 @@ fn exchange_diagonal_tile<M: Tiled>(m: M, grid: Grid, start: usize) -> M {
 
 /// Does the same as [`exchange_on_diagonal`], by quadrants. The calls nest at most as deep as `size` can
 /// be halved until it is at most 8. The proof that the calls end counts these levels.
-///
-/// # Contract
-///
-/// ```text
-/// requires within { start + size ≤ 2 ^ grid.digits }
-/// requires ready { HoldsGrid grid (M.items m) }
-/// ensures exchanged { SwapsInGrid grid (square_at start size) (M.items m) (M.items result) }
-/// ensures holder { M.same_holder (grid.width * square_swaps size) m result }
-/// ```
 pub(crate) fn exchange_quadrants<M: Tiled>(m: M, grid: Grid, start: usize, size: usize) -> M {
     if size == TILE && start % TILE == 0 {
         return exchange_diagonal_tile(m, grid, start);
@@ -406,15 +263,6 @@ pub(crate) fn exchange_quadrants<M: Tiled>(m: M, grid: Grid, start: usize, size:
 /// Exchanges all items of a grid that are above the diagonal with their mirror images, by quadrants
 /// or row by row. Row by row, the compiler unrolls the exchanges if it knows that the grid has two or
 /// four rows.
-///
-/// # Contract
-///
-/// ```text
-/// requires { HoldsGrid grid (M.items m) }
-/// ensures exchanged { SwapsInGrid grid (square_at 0 (2 ^ grid.digits))
-///     (M.items m) (M.items result) }
-/// ensures holder { M.same_holder (grid.width * square_swaps (2 ^ grid.digits)) m result }
-/// ```
 #[inline(always)]
 pub(crate) fn exchange_square<M: Tiled>(m: M, grid: Grid, row_by_row: bool) -> M {
     let size = pow2(grid.digits);
@@ -427,14 +275,6 @@ pub(crate) fn exchange_square<M: Tiled>(m: M, grid: Grid, row_by_row: bool) -> M
 
 /// Reverses `x`, which has at most `digits` binary digits. Up to six digits are looked up in the
 /// table, and more are reversed by halves.
-///
-/// # Contract
-///
-/// ```text
-/// requires few { digits < 64 }
-/// requires below { x < 2 ^ digits }
-/// ensures { result ≡ rev digits x }
-/// ```
 #[inline(always)]
 pub(crate) fn reverse_digits(x: usize, digits: usize) -> usize {
     if digits <= 6 {

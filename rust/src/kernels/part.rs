@@ -6,17 +6,6 @@ use crate::kernels::kernel::{Ahead, Tiled};
 use crate::kernels::parts::{Part, ReversalPlan, TransposePlan};
 
 /// Puts the region of a part.
-///
-/// # Contract
-///
-/// ```text
-/// requires input_fits { length (R.items source) ≡ part.plan.width * part.plan.height }
-/// requires output_fits { length (M.items cells) ≡ part.plan.width * part.plan.height }
-/// ensures transposed { let plan = part.plan in
-///     IsRegionTransposed (region_of plan part.number) plan.width plan.height
-///     (R.items source) (M.items cells) (M.items result) }
-/// ensures holder { M.same_holder (items_of (region_of part.plan part.number)) cells result }
-/// ```
 #[inline(never)]
 pub(crate) fn transpose_part<M: Output, R: Ahead<Item = M::Item> + Copy>(
     cells: M,
@@ -28,15 +17,6 @@ pub(crate) fn transpose_part<M: Output, R: Ahead<Item = M::Item> + Copy>(
 }
 
 /// Makes the exchanges of a part.
-///
-/// # Contract
-///
-/// ```text
-/// requires plan { IsReversalPlan (length (M.items items)) part.plan }
-/// requires len_fits { length (M.items items) < 2 ^ 64 }
-/// ensures { IsPartMade part.plan part.number (M.items items) (M.items result)
-///     (λ n. M.same_holder n items result) }
-/// ```
 pub(crate) fn reverse_part<M: Tiled>(items: M, part: Part<ReversalPlan>) -> M {
     match part.patch() {
         Ok(patch) => patch.exchange(items),

@@ -36,17 +36,6 @@ pub(crate) struct Cut {
 impl Cut {
     /// Cuts the numbers below `len` into at most `parts` parts. Each part begins at a multiple of
     /// `unit`, and the parts are no longer than necessary. A `parts` of 0 counts as 1.
-    ///
-    /// # Contract
-    ///
-    /// ```text
-    /// requires { 0 < unit }
-    /// ensures len { result.len ≡ len }
-    /// ensures few { parts_in result.len result.part_len ≤ max parts 1 }
-    /// ensures units { (k : ℕ) → k < parts_in result.len result.part_len
-    ///     → start_of result.len result.part_len k % unit ≡ 0 }
-    /// ensures least { IsLeastPartLen parts unit result.len result.part_len }
-    /// ```
     pub(crate) fn new(len: usize, parts: usize, unit: usize) -> Cut {
         let units = len.div_ceil(unit).div_ceil(parts.max(1));
         Cut {
@@ -56,39 +45,17 @@ impl Cut {
     }
 
     /// The number of parts, which is 0 if `len` is 0.
-    ///
-    /// # Contract
-    ///
-    /// ```text
-    /// ensures count { result ≡ parts_in self.len self.part_len }
-    /// ensures parts { FollowEachOther result self.len (start_of self.len self.part_len) }
-    /// ```
     pub(crate) fn count(self) -> usize {
         self.len.div_ceil(self.part_len)
     }
 
     /// The first number of part `k`, and the number after its last one.
-    ///
-    /// # Contract
-    ///
-    /// ```text
-    /// requires { k < parts_in self.len self.part_len }
-    /// ensures from { result.0 ≡ start_of self.len self.part_len k }
-    /// ensures to { result.1 ≡ start_of self.len self.part_len (k + 1) }
-    /// ```
     pub(crate) fn part(self, k: usize) -> (usize, usize) {
         let from = k * self.part_len;
         (from, from + self.part_len.min(self.len - from))
     }
 
     /// The number of pairs of parts: each part with itself and with each later one.
-    ///
-    /// # Contract
-    ///
-    /// ```text
-    /// requires { parts_in self.len self.part_len < 2 ^ 32 }
-    /// ensures { result ≡ pairs_of (parts_in self.len self.part_len) }
-    /// ```
     pub(crate) fn pairs(self) -> usize {
         let count = self.count();
         count * (count + 1) / 2
@@ -97,16 +64,6 @@ impl Cut {
     /// The two parts of pair `number`, the earlier part first. The pairs are numbered as if the
     /// parts lay in a circle, those of the parts that are farthest from each other first. The pairs
     /// of a part with itself come last.
-    ///
-    /// # Contract
-    ///
-    /// ```text
-    /// requires few { parts_in self.len self.part_len < 2 ^ 32 }
-    /// requires below { number < pairs_of (parts_in self.len self.part_len) }
-    /// ensures in_order { result.0 ≤ result.1 }
-    /// ensures below { result.1 < parts_in self.len self.part_len }
-    /// ensures number { number_of_pair (parts_in self.len self.part_len) result.0 result.1 ≡ number }
-    /// ```
     pub(crate) fn pair(self, number: usize) -> (usize, usize) {
         let count = self.count();
         let number = self.pairs() - 1 - number;
@@ -129,19 +86,6 @@ impl RowPairs {
     /// The pairs of the rows of a list of `len` items, `row_width` in each row. Each side of a grid is
     /// cut into at most `parts` parts. A `parts` of 0 counts as 1. Rows of one item are cut at
     /// multiples of `TILE`.
-    ///
-    /// # Contract
-    ///
-    /// ```text
-    /// requires { FitsRows len row_width }
-    /// ensures width { result.rows.width ≡ row_width }
-    /// ensures rows { 0 < len → (0 < row_width) × (len ≡ row_width * 2 ^ result.rows.digits) }
-    /// ensures few { parts_in result.cut.len result.cut.part_len ≤ max parts 1 }
-    /// ensures least { IsLeastPartLen parts (if row_width == 1 then TILE else 1) result.cut.len
-    ///     result.cut.part_len }
-    /// ensures units { (k : ℕ) → k < parts_in result.cut.len result.cut.part_len
-    ///     → start_of result.cut.len result.cut.part_len k % (if row_width == 1 then TILE else 1) ≡ 0 }
-    /// ```
     pub(crate) fn new(len: usize, row_width: usize, parts: usize) -> RowPairs {
         let rows = RowDigits::of(len, row_width);
         let unit = if row_width == 1 { TILE } else { 1 };
@@ -150,12 +94,6 @@ impl RowPairs {
     }
 
     /// The number of patches that are on the diagonal of their grid or above it.
-    ///
-    /// # Contract
-    ///
-    /// ```text
-    /// ensures { result ≡ patches_of self.rows.digits self.cut.part_len }
-    /// ```
     fn patches(self) -> usize {
         self.cut.pairs() * pow2(self.rows.digits % 2)
     }
@@ -163,13 +101,6 @@ impl RowPairs {
     /// Patch `number`: the middle part of the indices of the rows of its grid, and its rows and
     /// columns in that grid. The patches on the diagonals come last. They have half as many pairs as
     /// the others.
-    ///
-    /// # Contract
-    ///
-    /// ```text
-    /// requires { number < patches_of self.rows.digits self.cut.part_len }
-    /// ensures { IsPatch self.rows.digits self.cut.part_len number result.0 result.1 }
-    /// ```
     fn patch(self, number: usize) -> (usize, Region) {
         let grids = pow2(self.rows.digits % 2);
         let (first, second) = self.cut.pair(number / grids);
@@ -185,15 +116,6 @@ impl RowPairs {
     }
 
     /// Exchanges the two rows of each pair in patch `number`.
-    ///
-    /// # Contract
-    ///
-    /// ```text
-    /// requires below { number < patches_of self.rows.digits self.cut.part_len }
-    /// requires ready { HoldsRows self.rows.width self.rows.digits (M.items m) }
-    /// ensures { IsPatchExchanged self.rows.digits self.rows.width self.cut.part_len number
-    ///     (M.items m) (M.items result) (λ n. M.same_holder n m result) }
-    /// ```
     pub(crate) fn exchange_patch<M: Tiled>(self, m: M, number: usize) -> M {
         let (middle, region) = self.patch(number);
         let grid = self.rows.grid(middle);

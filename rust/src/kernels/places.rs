@@ -22,9 +22,8 @@
 //! leave out a step nor make an extra one.
 //!
 //! A reference to a holder is a holder too. A call on a slice runs its kernel on a holder of that
-//! slice. A call whose name ends in `_counted` is given a reference to a holder. It runs its kernel
-//! on a new counter around that reference. A call whose name ends in `_on`, `_short` or `_long` is
-//! given a counter. It runs its kernel on a counter that continues from the given count.
+//! slice. A call whose name ends in `_on`, `_short` or `_long` is given a counter. It runs its
+//! kernel on a counter that continues from the given count.
 
 #[cfg(target_pointer_width = "32")]
 use crate::width::Index as usize;
@@ -53,28 +52,9 @@ pub trait Places {
     type Item;
 
     /// The number of places.
-    ///
-    /// # Contract
-    ///
-    /// [`contracts`](crate::kernels::contracts) explains how to read this contract.
-    ///
-    /// ```text
-    /// ensures { result ≡ length (items self.now) }
-    /// ```
     fn len(&self) -> usize;
 
     /// Exchanges the items at places `i` and `j`. If `i` equals `j`, nothing changes.
-    ///
-    /// # Contract
-    ///
-    /// [`contracts`](crate::kernels::contracts) explains how to read this contract.
-    ///
-    /// ```text
-    /// requires first { i < length (items self.old) }
-    /// requires second { j < length (items self.old) }
-    /// ensures exchanged { items self.new ≡ swap (items self.old) i j }
-    /// ensures holder { same_holder 1 self.old self.new }
-    /// ```
     fn exchange(&mut self, i: usize, j: usize);
 }
 
@@ -88,27 +68,9 @@ pub trait Cells {
     type Item: Copy;
 
     /// The number of cells.
-    ///
-    /// # Contract
-    ///
-    /// [`contracts`](crate::kernels::contracts) explains how to read this contract.
-    ///
-    /// ```text
-    /// ensures { result ≡ length (items self.now) }
-    /// ```
     fn len(&self) -> usize;
 
     /// Puts `v` into cell `i`. All other cells keep their items.
-    ///
-    /// # Contract
-    ///
-    /// [`contracts`](crate::kernels::contracts) explains how to read this contract.
-    ///
-    /// ```text
-    /// requires { i < length (items self.old) }
-    /// ensures written { items self.new ≡ slice_set (items self.old) i v }
-    /// ensures holder { same_holder 1 self.old self.new }
-    /// ```
     fn put(&mut self, i: usize, v: Self::Item);
 }
 
@@ -121,26 +83,9 @@ pub trait Source {
     type Item: Copy;
 
     /// The number of items.
-    ///
-    /// # Contract
-    ///
-    /// [`contracts`](crate::kernels::contracts) explains how to read this contract.
-    ///
-    /// ```text
-    /// ensures { result ≡ length (items self.now) }
-    /// ```
     fn len(&self) -> usize;
 
     /// The item at index `i`.
-    ///
-    /// # Contract
-    ///
-    /// [`contracts`](crate::kernels::contracts) explains how to read this contract.
-    ///
-    /// ```text
-    /// requires { i < length (items self.now) }
-    /// ensures { slice_get (items self.now) i ≡ Some result }
-    /// ```
     fn at(&self, i: usize) -> Self::Item;
 }
 

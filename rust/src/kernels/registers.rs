@@ -26,9 +26,6 @@
 //! [`exchange_tiles`] and [`turn_tile`] leave the list that the methods of these names in
 //! [`places`](crate::kernels::places) leave, and [`put_by_squares`] leaves that of `Blocked::put_block`. A holder's own methods
 //! may call them.
-//!
-//! The module `witness`, which only the Rattle sources have, is an example for whoever writes a holder: a
-//! register, and lists that meet [`Runs`].
 
 pub(crate) mod blocks;
 pub(crate) mod line_blocks;
@@ -45,40 +42,15 @@ pub(crate) trait Register<T>: Copy {
     const SIDE: usize;
 
     /// Interleaves the first halves of two registers.
-    ///
-    /// # Contract
-    ///
-    /// ```text
-    /// ensures { AreInterleaved SIDE 0 0 (items self) (items other) (items result) }
-    /// ```
     fn low(self, other: Self) -> Self;
 
     /// Interleaves the second halves of two registers.
-    ///
-    /// # Contract
-    ///
-    /// ```text
-    /// ensures { AreInterleaved SIDE SIDE SIDE (items self) (items other) (items result) }
-    /// ```
     fn high(self, other: Self) -> Self;
 
     /// A register whose first half is this one. Its second half may be anything.
-    ///
-    /// # Contract
-    ///
-    /// ```text
-    /// ensures { (t : ℕ) → t < SIDE → slice_get (items result) t ≡ slice_get (half_items first) t }
-    /// ```
     fn from_half(first: Self::Half) -> Self;
 
     /// Both halves of a register.
-    ///
-    /// # Contract
-    ///
-    /// ```text
-    /// ensures first { (t : ℕ) → t < SIDE → slice_get (half_items result.0) t ≡ slice_get (items self) t }
-    /// ensures second { (t : ℕ) → t < SIDE → slice_get (half_items result.1) t ≡ slice_get (items self) (SIDE + t) }
-    /// ```
     fn halves(self) -> (Self::Half, Self::Half);
 }
 
@@ -89,38 +61,13 @@ pub(crate) trait Register<T>: Copy {
 /// `requires` asks.
 pub(crate) trait Runs<T, D: Register<T>> {
     /// Reads the run from `place` on.
-    ///
-    /// # Contract
-    ///
-    /// ```text
-    /// requires { may (reach self.now) place }
-    /// ensures { (t : ℕ) → t < D.SIDE → slice_get (D.half_items result) t ≡ slice_get (items self.now) (place + t) }
-    /// ```
     fn load(&self, place: usize) -> D::Half;
 
     /// Writes the run from `place` on.
-    ///
-    /// # Contract
-    ///
-    /// ```text
-    /// requires { may (reach self.old) place }
-    /// ensures stored { IsRunStored D.SIDE place (D.half_items run) (items self.old) (items self.new) }
-    /// ensures reach { reach self.new ≡ reach self.old }
-    /// ensures holder { same_holder D.SIDE self.old self.new }
-    /// ```
     fn store(&mut self, place: usize, run: D::Half);
 
     /// Does the same as `store`. It is for a run that the kernel does not use again, so a holder may store it past the caches.
     /// No clause says that the run is not used again: that would take longer, and leave the same items.
-    ///
-    /// # Contract
-    ///
-    /// ```text
-    /// requires { may_stream (reach self.old) place }
-    /// ensures stored { IsRunStored D.SIDE place (D.half_items run) (items self.old) (items self.new) }
-    /// ensures reach { reach self.new ≡ reach self.old }
-    /// ensures holder { same_holder D.SIDE self.old self.new }
-    /// ```
     fn stream(&mut self, place: usize, run: D::Half) {
         self.store(place, run);
     }
@@ -136,12 +83,6 @@ pub(crate) struct Four<D> {
 }
 
 /// Interleaves the items of the first two registers with those of the last two.
-///
-/// # Contract
-///
-/// ```text
-/// ensures { IsNextStage D.SIDE (items_of_four D.items four) (items_of_four D.items result) }
-/// ```
 #[inline(always)]
 fn next_stage<T, D: Register<T>>(four: Four<D>) -> Four<D> {
     let Four { a, b, c, d } = four;
@@ -154,27 +95,12 @@ fn next_stage<T, D: Register<T>>(four: Four<D>) -> Four<D> {
 }
 
 /// Reads two runs and interleaves them.
-///
-/// # Contract
-///
-/// ```text
-/// requires first { S.may (S.reach list.now) first }
-/// requires second { S.may (S.reach list.now) second }
-/// ensures { AreInterleaved D.SIDE first second (S.items list.now) (S.items list.now) (D.items result) }
-/// ```
 #[inline(always)]
 fn load_two<T, D: Register<T>, S: Runs<T, D>>(list: &S, first: usize, second: usize) -> D {
     D::from_half(list.load(first)).low(D::from_half(list.load(second)))
 }
 
 /// Reads 8 runs. Each register has two of them, interleaved: the first stage is made as they are read.
-///
-/// # Contract
-///
-/// ```text
-/// requires { AreReached 8 from (S.may (S.reach list.now)) }
-/// ensures { AreLoaded D.SIDE from (S.items list.now) (items_of_four D.items result) }
-/// ```
 #[inline(always)]
 fn load<T, D: Register<T>, S: Runs<T, D>>(list: &S, from: [usize; 8]) -> Four<D> {
     Four {
@@ -187,13 +113,6 @@ fn load<T, D: Register<T>, S: Runs<T, D>>(list: &S, from: [usize; 8]) -> Four<D>
 
 /// The places at which the registers of a stage are read, in their order. `places` has the first place
 /// of each row of the squares, one square after another.
-///
-/// # Contract
-///
-/// ```text
-/// requires { IsSide side }
-/// ensures { (s r : ℕ) → r < side → side * s + r < 8 → slice_index result (8 / side * r + s) ≡ slice_index places (side * s + r) }
-/// ```
 #[inline(always)]
 fn in_order(places: [usize; 8], side: usize) -> [usize; 8] {
     if side == 2 {
@@ -211,14 +130,6 @@ fn in_order(places: [usize; 8], side: usize) -> [usize; 8] {
 
 /// Reads squares, which are 8 rows together, and transposes them. `places` has the first place of each
 /// row, one square after another.
-///
-/// # Contract
-///
-/// ```text
-/// requires some_side { IsSide D.SIDE }
-/// requires reached { AreReached 8 places (S.may (S.reach list.now)) }
-/// ensures { AreColumns D.SIDE places (S.items list.now) (items_of_four D.items result) }
-/// ```
 #[inline(always)]
 fn load_columns<T, D: Register<T>, S: Runs<T, D>>(list: &S, places: [usize; 8]) -> Four<D> {
     let side = D::SIDE;
@@ -234,17 +145,6 @@ fn load_columns<T, D: Register<T>, S: Runs<T, D>>(list: &S, places: [usize; 8]) 
 }
 
 /// Writes the first half of a register from place `first` on, and the second half from place `second` on.
-///
-/// # Contract
-///
-/// ```text
-/// requires apart { (first + D.SIDE ≤ second) ⊎ (second + D.SIDE ≤ first) }
-/// requires first { M.may (M.reach list.old) first }
-/// requires second { M.may (M.reach list.old) second }
-/// ensures stored { IsStored D.SIDE first second (D.items rows) (M.items list.old) (M.items list.new) }
-/// ensures reach { M.reach list.new ≡ M.reach list.old }
-/// ensures holder { M.same_holder (2 * D.SIDE) list.old list.new }
-/// ```
 #[inline(always)]
 fn store_two<T, D: Register<T>, M: Runs<T, D>>(list: &mut M, first: usize, second: usize, rows: D) {
     let (a, b) = rows.halves();
@@ -253,17 +153,6 @@ fn store_two<T, D: Register<T>, M: Runs<T, D>>(list: &mut M, first: usize, secon
 }
 
 /// Stores four registers, or the first two of them, by runs of `count` places.
-///
-/// # Contract
-///
-/// ```text
-/// requires known { (count ≡ 4) ⊎ (count ≡ 8) }
-/// requires reached { AreReached count to (M.may (M.reach list.old)) }
-/// requires apart { AreDisjoint count D.SIDE to }
-/// ensures stored { AreStored count D.SIDE to (items_of_four D.items four) (M.items list.old) (M.items list.new) }
-/// ensures reach { M.reach list.new ≡ M.reach list.old }
-/// ensures holder { M.same_holder (count * D.SIDE) list.old list.new }
-/// ```
 #[inline(always)]
 fn store<T, D: Register<T>, M: Runs<T, D>>(
     list: &mut M,
@@ -280,14 +169,6 @@ fn store<T, D: Register<T>, M: Runs<T, D>>(
 }
 
 /// For each row `c` of a tile, the place in column `tops[c]`.
-///
-/// # Contract
-///
-/// ```text
-/// requires below { (c : ℕ) → c < 8 → slice_index tops c < 8 }
-/// requires fit { (j : ℕ) → j < 8 → slice_index x j + 8 < 2 ^ 64 }
-/// ensures { (c : ℕ) → c < 8 → slice_index result c ≡ slice_index x c + slice_index tops c }
-/// ```
 #[inline(always)]
 fn in_columns(x: [usize; 8], tops: [usize; 8]) -> [usize; 8] {
     [
@@ -304,16 +185,6 @@ fn in_columns(x: [usize; 8], tops: [usize; 8]) -> [usize; 8] {
 
 /// The first place of row `c` of some squares side by side, if the first row of its square is row
 /// `top` of a tile.
-///
-/// # Contract
-///
-/// ```text
-/// requires some_side { IsSide side }
-/// requires below { top + side ≤ 8 }
-/// requires in_tile { c < 8 }
-/// requires fit { (j : ℕ) → j < 8 → slice_index x j + 8 < 2 ^ 64 }
-/// ensures { result ≡ slice_index x (top + c % side) + (c - c % side) }
-/// ```
 #[inline(always)]
 fn row_of_squares(x: [usize; 8], side: usize, top: usize, c: usize) -> usize {
     x[top + c % side] + (c - c % side)
@@ -321,15 +192,6 @@ fn row_of_squares(x: [usize; 8], side: usize, top: usize, c: usize) -> usize {
 
 /// For each row `c` of some squares side by side, its first place, if the first row of its square is
 /// row `tops[c]` of a tile.
-///
-/// # Contract
-///
-/// ```text
-/// requires some_side { IsSide side }
-/// requires below { (c : ℕ) → c < 8 → slice_index tops c + side ≤ 8 }
-/// requires fit { (j : ℕ) → j < 8 → slice_index x j + 8 < 2 ^ 64 }
-/// ensures { (c : ℕ) → c < 8 → slice_index result c ≡ slice_index x (slice_index tops c + c % side) + (c - c % side) }
-/// ```
 #[inline(always)]
 fn in_rows(x: [usize; 8], side: usize, tops: [usize; 8]) -> [usize; 8] {
     // With a loop here, the compiler would move registers back and forth in the loop over the blocks.
@@ -346,14 +208,6 @@ fn in_rows(x: [usize; 8], side: usize, tops: [usize; 8]) -> [usize; 8] {
 }
 
 /// The same as [`in_columns`], for the same column in each row.
-///
-/// # Contract
-///
-/// ```text
-/// requires below { top < 8 }
-/// requires fit { (j : ℕ) → j < 8 → slice_index x j + 8 < 2 ^ 64 }
-/// ensures { (c : ℕ) → c < 8 → slice_index result c ≡ slice_index x c + top }
-/// ```
 #[inline(always)]
 fn in_column(x: [usize; 8], top: usize) -> [usize; 8] {
     [
@@ -369,15 +223,6 @@ fn in_column(x: [usize; 8], top: usize) -> [usize; 8] {
 }
 
 /// The same as [`in_rows`], for squares side by side that begin in the same row of a tile.
-///
-/// # Contract
-///
-/// ```text
-/// requires some_side { IsSide side }
-/// requires below { top + side ≤ 8 }
-/// requires fit { (j : ℕ) → j < 8 → slice_index x j + 8 < 2 ^ 64 }
-/// ensures { (c : ℕ) → c < 8 → slice_index result c ≡ slice_index x (top + c % side) + (c - c % side) }
-/// ```
 #[inline(always)]
 fn in_band(x: [usize; 8], side: usize, top: usize) -> [usize; 8] {
     [
@@ -393,20 +238,6 @@ fn in_band(x: [usize; 8], side: usize, top: usize) -> [usize; 8] {
 }
 
 /// Exchanges `D::SIDE` rows of a tile, from row `row` on, with as many columns of the other.
-///
-/// # Contract
-///
-/// ```text
-/// requires some_side { IsSide D.SIDE }
-/// requires below { row + D.SIDE ≤ 8 }
-/// requires tiles { AreTiles x y (length (M.items list.old)) }
-/// requires reached_x { RowsReached 8 D.SIDE (slice_index x) (M.may (M.reach list.old)) }
-/// requires reached_y { RowsReached 8 D.SIDE (slice_index y) (M.may (M.reach list.old)) }
-/// requires len_fits { length (M.items list.old) < 2 ^ 63 }
-/// ensures exchanged { RowsExchanged row (row + D.SIDE) x y (M.items list.old) (M.items list.new) }
-/// ensures reach { M.reach list.new ≡ M.reach list.old }
-/// ensures holder { M.same_holder (16 * D.SIDE) list.old list.new }
-/// ```
 #[inline(always)]
 fn exchange_band<T, D: Register<T>, M: Runs<T, D>>(
     list: &mut M,
@@ -423,18 +254,6 @@ fn exchange_band<T, D: Register<T>, M: Runs<T, D>>(
 }
 
 /// Does what `Tiled::exchange_tiles` does, by squares of `D::SIDE` rows.
-///
-/// # Contract
-///
-/// ```text
-/// requires some_side { IsSide D.SIDE }
-/// requires tiles { AreTiles x y (length (M.items list.old)) }
-/// requires reached_x { RowsReached 8 D.SIDE (slice_index x) (M.may (M.reach list.old)) }
-/// requires reached_y { RowsReached 8 D.SIDE (slice_index y) (M.may (M.reach list.old)) }
-/// ensures exchanged { TilesExchanged 64 x y (M.items list.old) (M.items list.new) }
-/// ensures reach { M.reach list.new ≡ M.reach list.old }
-/// ensures holder { M.same_holder 128 list.old list.new }
-/// ```
 #[inline(always)]
 pub(crate) fn exchange_tiles<T, D: Register<T>, M: Runs<T, D>>(
     list: &mut M,
@@ -457,29 +276,12 @@ pub(crate) fn exchange_tiles<T, D: Register<T>, M: Runs<T, D>>(
 }
 
 /// The first column of the square whose mirror image is in row `c` of all squares.
-///
-/// # Contract
-///
-/// ```text
-/// requires some_side { IsSide side }
-/// requires sum { sum < 8 }
-/// requires below { c < 8 }
-/// ensures { result ≡ (8 + sum - (c - c % side)) % 8 }
-/// ```
 #[inline(always)]
 fn opposite(side: usize, sum: usize, c: usize) -> usize {
     (8 + sum - (c - c % side)) % 8
 }
 
 /// The first column of the square whose mirror image is in row `c` of all squares, for each `c`.
-///
-/// # Contract
-///
-/// ```text
-/// requires some_side { IsSide side }
-/// requires sum { sum < 8 }
-/// ensures { (c : ℕ) → c < 8 → slice_index result c ≡ (8 + sum - (c - c % side)) % 8 }
-/// ```
 #[inline(always)]
 fn opposites(side: usize, sum: usize) -> [usize; 8] {
     [
@@ -495,20 +297,6 @@ fn opposites(side: usize, sum: usize) -> [usize; 8] {
 }
 
 /// Transposes some squares of a tile, each into the place of its mirror image.
-///
-/// # Contract
-///
-/// ```text
-/// requires some_side { IsSide D.SIDE }
-/// requires sum { sum < 8 }
-/// requires whole { sum % D.SIDE ≡ 0 }
-/// requires tile { IsTile x (length (M.items list.old)) }
-/// requires reached { RowsReached 8 D.SIDE (slice_index x) (M.may (M.reach list.old)) }
-/// requires len_fits { length (M.items list.old) < 2 ^ 63 }
-/// ensures turned { SquaresTurned sum (sum + D.SIDE) D.SIDE x (M.items list.old) (M.items list.new) }
-/// ensures reach { M.reach list.new ≡ M.reach list.old }
-/// ensures holder { M.same_holder (8 * D.SIDE) list.old list.new }
-/// ```
 #[inline(always)]
 fn turn_squares<T, D: Register<T>, M: Runs<T, D>>(list: &mut M, x: [usize; 8], sum: usize) {
     let side = D::SIDE;
@@ -518,17 +306,6 @@ fn turn_squares<T, D: Register<T>, M: Runs<T, D>>(list: &mut M, x: [usize; 8], s
 }
 
 /// Does what `Tiled::turn_tile` does, by squares of `D::SIDE` rows.
-///
-/// # Contract
-///
-/// ```text
-/// requires some_side { IsSide D.SIDE }
-/// requires tile { IsTile x (length (M.items list.old)) }
-/// requires reached { RowsReached 8 D.SIDE (slice_index x) (M.may (M.reach list.old)) }
-/// ensures turned { TileTurned 64 x (M.items list.old) (M.items list.new) }
-/// ensures reach { M.reach list.new ≡ M.reach list.old }
-/// ensures holder { M.same_holder 64 list.old list.new }
-/// ```
 #[inline(always)]
 pub(crate) fn turn_tile<T, D: Register<T>, M: Runs<T, D>>(list: &mut M, x: [usize; 8]) {
     match D::SIDE {
@@ -547,30 +324,12 @@ pub(crate) fn turn_tile<T, D: Register<T>, M: Runs<T, D>>(list: &mut M, x: [usiz
 }
 
 /// Where row `c` of `count` rows begins. After the last row come the same rows again.
-///
-/// # Contract
-///
-/// ```text
-/// requires known { (count ≡ 4) ⊎ (count ≡ 8) }
-/// requires fits { (r : ℕ) → r < count → first + r * stride + 8 < 2 ^ 64 }
-/// ensures is { result ≡ first + c % count * stride }
-/// ensures fit { result + 8 < 2 ^ 64 }
-/// ```
 #[inline(always)]
 fn start(first: usize, stride: usize, count: usize, c: usize) -> usize {
     first + c % count * stride
 }
 
 /// Where the rows of a block begin, or those of its transpose.
-///
-/// # Contract
-///
-/// ```text
-/// requires known { (count ≡ 4) ⊎ (count ≡ 8) }
-/// requires fits { (r : ℕ) → r < count → first + r * stride + 8 < 2 ^ 64 }
-/// ensures are { (c : ℕ) → c < 8 → slice_index result c ≡ first + c % count * stride }
-/// ensures fit { (c : ℕ) → c < 8 → slice_index result c + 8 < 2 ^ 64 }
-/// ```
 #[inline(always)]
 fn starts(first: usize, stride: usize, count: usize) -> [usize; 8] {
     [
@@ -587,23 +346,6 @@ fn starts(first: usize, stride: usize, count: usize) -> [usize; 8] {
 
 /// Puts `D::SIDE` columns of a block, from column `col` on, which are squares one above another. If
 /// the block has 4 rows, the registers have each of its squares twice, and one of both is put.
-///
-/// # Contract
-///
-/// ```text
-/// requires some_side { IsSide D.SIDE }
-/// requires known { (block.rows ≡ 4) ⊎ (block.rows ≡ 8) }
-/// requires below { col + D.SIDE ≤ block.rows }
-/// requires square { block.cols ≡ block.rows }
-/// requires block { BlockFits block (length (S.items source.now)) (length (M.items cells.old)) }
-/// requires reads { RowsReached block.rows D.SIDE (λ r. block.from + r * block.width) (S.may (S.reach source.now)) }
-/// requires writes { RowsReached block.rows D.SIDE (λ c. block.to + c * block.height) (M.may (M.reach cells.old)) }
-/// requires source_len_fits { length (S.items source.now) < 2 ^ 63 }
-/// requires cells_len_fits { length (M.items cells.old) < 2 ^ 63 }
-/// ensures put { ColumnsPut col (col + D.SIDE) block (S.items source.now) (M.items cells.old) (M.items cells.new) }
-/// ensures reach { M.reach cells.new ≡ M.reach cells.old }
-/// ensures holder { M.same_holder (block.rows * D.SIDE) cells.old cells.new }
-/// ```
 #[inline(always)]
 fn put_squares<T, D: Register<T>, S: Runs<T, D>, M: Runs<T, D>>(
     cells: &mut M,
@@ -618,19 +360,6 @@ fn put_squares<T, D: Register<T>, S: Runs<T, D>, M: Runs<T, D>>(
 
 /// Does what [`store`] does, for squares of 2 or 4 rows, in another order: the runs of a column are
 /// stored one right after the other.
-///
-/// # Contract
-///
-/// ```text
-/// requires some_side { (side ≡ 2) ⊎ (side ≡ 4) }
-/// requires known { (count ≡ 4) ⊎ (count ≡ 8) }
-/// requires squares { 2 * side ≤ count }
-/// requires reached { AreReached count to (M.may (M.reach list.old)) }
-/// requires apart { AreDisjoint count D.SIDE to }
-/// ensures stored { AreStored count D.SIDE to (items_of_four D.items four) (M.items list.old) (M.items list.new) }
-/// ensures reach { M.reach list.new ≡ M.reach list.old }
-/// ensures holder { M.same_holder (count * D.SIDE) list.old list.new }
-/// ```
 #[inline(always)]
 fn store_columns<T, D: Register<T>, M: Runs<T, D>>(
     list: &mut M,
@@ -672,23 +401,6 @@ fn store_columns<T, D: Register<T>, M: Runs<T, D>>(
 /// Puts twice `D::SIDE` columns of a block, from column `col` on. All of them are read before one is
 /// put. So two neighbouring runs of a row are read, and two of a column written, one right after the
 /// other. On aarch64 that is one instruction for both (`ldp`, `stp`).
-///
-/// # Contract
-///
-/// ```text
-/// requires some_side { IsSide D.SIDE }
-/// requires known { (block.rows ≡ 4) ⊎ (block.rows ≡ 8) }
-/// requires below { col + 2 * D.SIDE ≤ block.rows }
-/// requires square { block.cols ≡ block.rows }
-/// requires block { BlockFits block (length (S.items source.now)) (length (M.items cells.old)) }
-/// requires reads { RowsReached block.rows D.SIDE (λ r. block.from + r * block.width) (S.may (S.reach source.now)) }
-/// requires writes { RowsReached block.rows D.SIDE (λ c. block.to + c * block.height) (M.may (M.reach cells.old)) }
-/// requires source_len_fits { length (S.items source.now) < 2 ^ 63 }
-/// requires cells_len_fits { length (M.items cells.old) < 2 ^ 63 }
-/// ensures put { ColumnsPut col (col + 2 * D.SIDE) block (S.items source.now) (M.items cells.old) (M.items cells.new) }
-/// ensures reach { M.reach cells.new ≡ M.reach cells.old }
-/// ensures holder { M.same_holder (block.rows * (2 * D.SIDE)) cells.old cells.new }
-/// ```
 #[inline(always)]
 fn put_twice<T, D: Register<T>, S: Runs<T, D>, M: Runs<T, D>>(
     cells: &mut M,
@@ -707,21 +419,6 @@ fn put_twice<T, D: Register<T>, S: Runs<T, D>, M: Runs<T, D>>(
 }
 
 /// Does what `Blocked::put_block` does, by squares of `D::SIDE` rows.
-///
-/// # Contract
-///
-/// ```text
-/// requires some_side { IsSide D.SIDE }
-/// requires known { (block.rows ≡ 4) ⊎ (block.rows ≡ 8) }
-/// requires square { block.cols ≡ block.rows }
-/// requires below { D.SIDE ≤ block.rows }
-/// requires block { BlockFits block (length (S.items source.now)) (length (M.items cells.old)) }
-/// requires reads { RowsReached block.rows D.SIDE (λ r. block.from + r * block.width) (S.may (S.reach source.now)) }
-/// requires writes { RowsReached block.rows D.SIDE (λ c. block.to + c * block.height) (M.may (M.reach cells.old)) }
-/// ensures put { IsBlockPut (block_items block) block (S.items source.now) (M.items cells.old) (M.items cells.new) }
-/// ensures reach { M.reach cells.new ≡ M.reach cells.old }
-/// ensures holder { M.same_holder (block_items block) cells.old cells.new }
-/// ```
 #[inline(always)]
 pub(crate) fn put_by_squares<T, D: Register<T>, S: Runs<T, D>, M: Runs<T, D>>(
     cells: &mut M,

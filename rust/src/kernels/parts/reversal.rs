@@ -18,15 +18,6 @@ pub(crate) enum ReversalPlan {
 impl ReversalPlan {
     /// The plan for a list of `len` items, `row_width` in each row. With a number of parts, and if
     /// there are items, it has the patches of [`RowPairs::new`].
-    ///
-    /// # Contract
-    ///
-    /// ```text
-    /// requires { FitsRows len row_width }
-    /// ensures width { width_of result ≡ row_width }
-    /// ensures plan { IsReversalPlan len result }
-    /// ensures cut { IsCutAsAsked len parts TILE result }
-    /// ```
     pub(crate) fn new(len: usize, row_width: usize, parts: Option<usize>) -> ReversalPlan {
         match parts {
             Some(parts) if len > 0 => {
@@ -57,13 +48,6 @@ impl Plan for RowPairs {
 impl Part<ReversalPlan> {
     /// The part as a patch, if the reversal is cut. Otherwise the part is the call, and the error is the number of items of
     /// each row.
-    ///
-    /// # Contract
-    ///
-    /// ```text
-    /// ensures cut { IfOk result (λ patch. (self.plan ≡ Patches patch.plan) × (patch.number ≡ self.number)) }
-    /// ensures whole { IfErr result (λ width. (len : ℕ) × (self.plan ≡ Whole len width)) }
-    /// ```
     pub(crate) fn patch(self) -> Result<Part<RowPairs>, usize> {
         let Part { plan, number } = self;
         match plan {
@@ -78,14 +62,6 @@ impl Part<ReversalPlan> {
 
 impl Part<RowPairs> {
     /// Exchanges the two rows of each pair in this patch.
-    ///
-    /// # Contract
-    ///
-    /// ```text
-    /// requires { HoldsRows self.plan.rows.width self.plan.rows.digits (M.items m) }
-    /// ensures { IsPatchExchanged self.plan.rows.digits self.plan.rows.width self.plan.cut.part_len self.number
-    ///     (M.items m) (M.items result) (λ n. M.same_holder n m result) }
-    /// ```
     pub(crate) fn exchange<M: Tiled>(self, m: M) -> M {
         let Part { plan, number } = self;
         plan.exchange_patch(m, number)

@@ -37,14 +37,6 @@ pub(crate) trait Tiled: Places {
     /// tile is the 8 places from `x[r]` on, and row r of the other the 8 places from `y[r]` on. No
     /// two of these 16 rows may overlap. A holder may have a faster way to do this than 64 calls of
     /// `exchange`.
-    ///
-    /// # Contract
-    ///
-    /// ```text
-    /// requires { AreTiles x y (length (Self.items self.old)) }
-    /// ensures exchanged { TilesExchanged 64 x y (Self.items self.old) (Self.items self.new) }
-    /// ensures holder { Self.same_holder 64 self.old self.new }
-    /// ```
     #[inline(always)]
     fn exchange_tiles(&mut self, x: [usize; 8], y: [usize; 8]) {
         len_fits(self.len());
@@ -59,14 +51,6 @@ pub(crate) trait Tiled: Places {
     /// exchanged with the item in row c and column r. Row r is the 8 places from `x[r]` on. No two
     /// of the 8 rows may overlap. A holder may have a faster way to do this than 28 calls of
     /// `exchange`.
-    ///
-    /// # Contract
-    ///
-    /// ```text
-    /// requires { IsTile x (length (Self.items self.old)) }
-    /// ensures turned { TileTurned 64 x (Self.items self.old) (Self.items self.new) }
-    /// ensures holder { Self.same_holder 28 self.old self.new }
-    /// ```
     #[inline(always)]
     fn turn_tile(&mut self, x: [usize; 8]) {
         len_fits(self.len());
@@ -86,16 +70,6 @@ pub(crate) trait Tiled: Places {
     /// Exchanges two runs of `len` consecutive items, those from place `i` on and those from place
     /// `j` on. Each run keeps its order. The runs must not overlap. A holder may have a faster way
     /// to do this than `len` calls of `exchange`.
-    ///
-    /// # Contract
-    ///
-    /// ```text
-    /// requires apart { (i + len ≤ j) ⊎ (j + len ≤ i) }
-    /// requires first { i + len ≤ length (Self.items self.old) }
-    /// requires second { j + len ≤ length (Self.items self.old) }
-    /// ensures exchanged { RunsExchanged i j len (Self.items self.old) (Self.items self.new) }
-    /// ensures holder { Self.same_holder len self.old self.new }
-    /// ```
     #[inline(always)]
     fn exchange_runs(&mut self, i: usize, j: usize, len: usize) {
         len_fits(self.len());
@@ -111,15 +85,6 @@ pub(crate) trait Blocked: Cells {
     /// `from + r * width + c` of `source` is put into cell `to + c * height + r`. All other cells
     /// keep their items. The columns of the block must not overlap in the cells. A holder may have
     /// a faster way to do this than one call of `put` for each item.
-    ///
-    /// # Contract
-    ///
-    /// ```text
-    /// requires { BlockFits block (length (R.items source.now)) (length (Self.items self.old)) }
-    /// ensures put { IsBlockPut (block_items block) block (R.items source.now)
-    ///     (Self.items self.old) (Self.items self.new) }
-    /// ensures holder { Self.same_holder (block_items block) self.old self.new }
-    /// ```
     #[inline(always)]
     fn put_block<R: Ahead<Item = Self::Item>>(&mut self, source: &R, block: Block)
     where
@@ -152,12 +117,6 @@ pub(crate) trait Ahead: Source {
 
     /// The items as a slice, if they are next to each other in memory in this order. A holder of
     /// cells can then read more than one of them at once.
-    ///
-    /// # Contract
-    ///
-    /// ```text
-    /// ensures { IfSome result (λ slice. slice.now ≡ Self.items self.now) }
-    /// ```
     #[inline(always)]
     fn as_slice(&self) -> Option<&[Self::Item]> {
         None

@@ -8,16 +8,6 @@ use crate::kernels::places::Places;
 pub(crate) trait RunsOfPlaces<T, D: Register<T>>: Runs<T, D> + Places<Item = T> {}
 
 /// Does what `Tiled::exchange_tiles` does: in registers if squares have 2, 4 or 8 rows, and otherwise item by item.
-///
-/// # Contract
-///
-/// ```text
-/// requires tiles { AreTiles x y (length (M.Places.items list.old)) }
-/// requires reached_x { RowsReached 8 D.SIDE (slice_index x) (M.Runs.may (M.Runs.reach list.old)) }
-/// requires reached_y { RowsReached 8 D.SIDE (slice_index y) (M.Runs.may (M.Runs.reach list.old)) }
-/// ensures exchanged { TilesExchanged 64 x y (M.Places.items list.old) (M.Places.items list.new) }
-/// ensures holder { M.Places.same_holder 64 list.old list.new }
-/// ```
 #[inline(always)]
 pub(crate) fn exchange_both<T, D: Register<T>, M: RunsOfPlaces<T, D>>(
     list: &mut M,
@@ -31,15 +21,6 @@ pub(crate) fn exchange_both<T, D: Register<T>, M: RunsOfPlaces<T, D>>(
 }
 
 /// Does what `Tiled::turn_tile` does: in registers if squares have 2, 4 or 8 rows, and otherwise item by item.
-///
-/// # Contract
-///
-/// ```text
-/// requires tile { IsTile x (length (M.Places.items list.old)) }
-/// requires reached { RowsReached 8 D.SIDE (slice_index x) (M.Runs.may (M.Runs.reach list.old)) }
-/// ensures turned { TileTurned 64 x (M.Places.items list.old) (M.Places.items list.new) }
-/// ensures holder { M.Places.same_holder 28 list.old list.new }
-/// ```
 #[inline(always)]
 pub(crate) fn turn<T, D: Register<T>, M: RunsOfPlaces<T, D>>(list: &mut M, x: [usize; 8]) {
     match D::SIDE {
@@ -49,14 +30,6 @@ pub(crate) fn turn<T, D: Register<T>, M: RunsOfPlaces<T, D>>(list: &mut M, x: [u
 }
 
 /// Exchanges two tiles item by item, in squares of 4 by 4.
-///
-/// # Contract
-///
-/// ```text
-/// requires { AreTiles x y (length (M.items list.old)) }
-/// ensures exchanged { TilesExchanged 64 x y (M.items list.old) (M.items list.new) }
-/// ensures holder { M.same_holder 64 list.old list.new }
-/// ```
 #[inline(always)]
 fn exchange_singly<M: Places>(list: &mut M, x: [usize; 8], y: [usize; 8]) {
     exchange_square(list, x, y, 0, 0);
@@ -66,16 +39,6 @@ fn exchange_singly<M: Places>(list: &mut M, x: [usize; 8], y: [usize; 8]) {
 }
 
 /// Exchanges the square of 4 by 4 items of a tile from row `row` and column `col` on, with its mirror image in another tile.
-///
-/// # Contract
-///
-/// ```text
-/// requires tiles { AreTiles x y (length (M.items list.old)) }
-/// requires row { row + 4 ≤ 8 }
-/// requires col { col + 4 ≤ 8 }
-/// ensures exchanged { ItemsExchanged (IsSquareOf row col 16) x y (M.items list.old) (M.items list.new) }
-/// ensures holder { M.same_holder 16 list.old list.new }
-/// ```
 #[inline(always)]
 fn exchange_square<M: Places>(list: &mut M, x: [usize; 8], y: [usize; 8], row: usize, col: usize) {
     let _len = list.len();
@@ -87,14 +50,6 @@ fn exchange_square<M: Places>(list: &mut M, x: [usize; 8], y: [usize; 8], row: u
 }
 
 /// Transposes a tile item by item.
-///
-/// # Contract
-///
-/// ```text
-/// requires { IsTile x (length (M.items list.old)) }
-/// ensures turned { TileTurned 64 x (M.items list.old) (M.items list.new) }
-/// ensures holder { M.same_holder 28 list.old list.new }
-/// ```
 #[inline(always)]
 fn turn_singly<M: Places>(list: &mut M, x: [usize; 8]) {
     let _len = list.len();

@@ -19,15 +19,6 @@ use crate::kernels::reverse::rows::reverse_chunks;
 use crate::kernels::transpose::transpose_square;
 
 /// The kernel of [`reverse_index_bits_long`](crate::kernels::reverse::reverse_index_bits_long).
-///
-/// # Contract
-///
-/// ```text
-/// requires fits { IsReversible (length (M.items m)) }
-/// requires not_short { 4 ≤ length (M.items m) }
-/// ensures order { IsReversal (M.items m) (M.items result) }
-/// ensures holder { M.same_holder (long_swaps (clog (length (M.items m)))) m result }
-/// ```
 #[inline(never)]
 pub(crate) fn reverse_long<M: Tiled>(m: M) -> M {
     let digits = log2_strict_usize(m.len());
@@ -40,18 +31,6 @@ pub(crate) fn reverse_long<M: Tiled>(m: M) -> M {
 /// Transposes each of the squares that lie side by side in `m`. The list is `2^log_size` rows of
 /// `2^log_stride` items, and each square has `2^log_size` rows and columns. A list of n items takes
 /// at most n/2 exchanges.
-///
-/// # Contract
-///
-/// ```text
-/// requires within { log_size ≤ log_stride }
-/// requires whole { length (M.items m) ≡ 2 ^ (log_size + log_stride) }
-/// requires len_fits { length (M.items m) < 2 ^ 64 }
-/// ensures transposed { AreTransposed (2 ^ (log_stride - log_size)) log_stride log_size (M.items m)
-///     (M.items result) }
-/// ensures holder { M.same_holder (2 ^ (log_stride - log_size) * square_swaps
-///     (2 ^ log_size)) m result }
-/// ```
 fn transpose_squares<M: Tiled>(m: M, log_stride: usize, log_size: usize) -> M {
     let side = pow2(log_size);
     let squares = pow2(log_stride - log_size);

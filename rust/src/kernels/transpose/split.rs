@@ -18,20 +18,6 @@ const NARROW_SIDE: usize = 2;
 /// The kernel of [`transpose_source_split_on`](crate::kernels::transpose::transpose_source_split_on). Splits
 /// `region` into leaves, with splits that nest at most `levels` deep, and puts each leaf in the way
 /// `leaf`. Also returns how deep the splits nest.
-///
-/// # Contract
-///
-/// ```text
-/// requires ready { IsReady region matrix.width matrix.height
-///     (R.items matrix.source) (M.items out) }
-/// requires enough { lev (rows_of region) (cols_of region) ≤ levels }
-/// ensures transposed { IsRegionTransposed region matrix.width matrix.height
-///     (R.items matrix.source)
-///     (M.items out) (M.items result.0) }
-/// ensures holder { M.same_holder (items_of region) out result.0 }
-/// ensures nested { result.1 ≡ nest (rows_of region) (cols_of region) }
-/// ensures bound { result.1 ≤ 57 }
-/// ```
 pub(crate) fn put_split<M: Blocked, R: Ahead<Item = M::Item> + Copy, W: PutRegion>(
     out: M,
     matrix: Matrix<R>,
@@ -49,32 +35,12 @@ pub(crate) fn put_split<M: Blocked, R: Ahead<Item = M::Item> + Copy, W: PutRegio
 }
 
 /// Whether `region` is put without a split.
-///
-/// # Contract
-///
-/// ```text
-/// requires rows_in_order { region.row_start ≤ region.row_end }
-/// requires cols_in_order { region.col_start ≤ region.col_end }
-/// ensures { let rows = rows_of region in let cols = cols_of region in
-///     MatchBool result (nest rows cols ≡ 0) ((NARROW_SIDE < rows) × (NARROW_SIDE < cols)
-///     × (LEAF_SIDE < max rows cols)) }
-/// ```
 fn is_leaf(region: Region) -> bool {
     let (rows, cols) = (region.rows(), region.cols());
     rows.min(cols) <= NARROW_SIDE || rows.max(cols) <= LEAF_SIDE
 }
 
 /// Halves the longer side of `region`. If both sides are equal, the rows are halved.
-///
-/// # Contract
-///
-/// ```text
-/// requires rows_in_order { region.row_start ≤ region.row_end }
-/// requires cols_in_order { region.col_start ≤ region.col_end }
-/// requires large { let rows = rows_of region in let cols = cols_of region in
-///     (NARROW_SIDE < rows) × (NARROW_SIDE < cols) × (LEAF_SIDE < max rows cols) }
-/// ensures { AreHalves region result.0 result.1 }
-/// ```
 fn cut_in_half(region: Region) -> (Region, Region) {
     let (rows, cols) = (region.rows(), region.cols());
     if rows >= cols {

@@ -12,18 +12,6 @@ use crate::kernels::grid::{Grid, exchange_square};
 use crate::kernels::places::bulk::Tiled;
 
 /// The kernel of [`transpose_square_on`](crate::kernels::transpose::transpose_square_on).
-///
-/// # Contract
-///
-/// ```text
-/// requires rows_apart { log_size ≤ log_stride }
-/// requires stride_fits { log_stride < 64 }
-/// requires room { let s = 2 ^ log_size in base + (s - 1) * 2 ^ log_stride + (s - 1)
-///     < length (M.items m) }
-/// requires len_fits { length (M.items m) < 2 ^ 64 }
-/// ensures transposed { IsSquareTransposed base log_stride log_size (M.items m) (M.items result) }
-/// ensures holder { let s = 2 ^ log_size in M.same_holder (s * (s - 1) / 2) m result }
-/// ```
 pub(crate) fn transpose_square<M: Tiled>(m: M, base: usize, log_stride: usize, log_size: usize) -> M {
     let grid = Grid {
         width: 1,

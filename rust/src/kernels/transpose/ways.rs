@@ -27,16 +27,6 @@ const COLUMN_ITEMS: usize = 8;
 /// them.
 pub(crate) trait PutRegion: Copy {
     /// Puts `region` in this way.
-    ///
-    /// # Contract
-    ///
-    /// ```text
-    /// requires ready { IsReady region matrix.width matrix.height
-    ///     (R.items matrix.source) (M.items out) }
-    /// ensures transposed { IsRegionTransposed region matrix.width matrix.height
-    ///     (R.items matrix.source) (M.items out) (M.items result) }
-    /// ensures holder { M.same_holder (items_of region) out result }
-    /// ```
     fn put<M: Blocked, R: Ahead<Item = M::Item> + Copy>(
         self,
         out: M,
@@ -182,18 +172,6 @@ impl<W: PutRegion> PutRegion for Outlined<W> {
 }
 
 /// Puts a region as one block, in the holder's own way.
-///
-/// # Contract
-///
-/// ```text
-/// requires some_rows { region.row_start < region.row_end }
-/// requires some_cols { region.col_start < region.col_end }
-/// requires ready { IsReady region matrix.width matrix.height
-///     (R.items matrix.source) (M.items out) }
-/// ensures transposed { IsRegionTransposed region matrix.width matrix.height
-///     (R.items matrix.source) (M.items out) (M.items result) }
-/// ensures holder { M.same_holder (items_of region) out result }
-/// ```
 #[inline(always)]
 pub(crate) fn put_as_block<M: Blocked, R: Ahead<Item = M::Item> + Copy>(
     out: M,
@@ -274,15 +252,6 @@ impl PutRegion for ShortColumns {
 /// Puts a column of `rows` items into consecutive cells from `to` on. The column begins at index
 /// `from` of the source. Most items are put by loops of `COLUMN_ITEMS` items, and the rest by one
 /// more loop.
-///
-/// # Contract
-///
-/// ```text
-/// requires column { HoldsColumn rows from matrix.width to (R.items matrix.source) (M.items out) }
-/// ensures put { IsColumnPut rows from matrix.width to (R.items matrix.source) (M.items out)
-///     (M.items result) }
-/// ensures holder { M.same_holder rows out result }
-/// ```
 #[inline(always)]
 fn put_column<M: Blocked, R: Ahead<Item = M::Item> + Copy>(
     out: M,
@@ -316,15 +285,6 @@ fn put_column<M: Blocked, R: Ahead<Item = M::Item> + Copy>(
 }
 
 /// Does the same as [`put_column`], in one loop.
-///
-/// # Contract
-///
-/// ```text
-/// requires column { HoldsColumn rows from matrix.width to (R.items matrix.source) (M.items out) }
-/// ensures put { IsColumnPut rows from matrix.width to (R.items matrix.source) (M.items out)
-///     (M.items result) }
-/// ensures holder { M.same_holder rows out result }
-/// ```
 #[inline(always)]
 fn put_items<M: Blocked, R: Ahead<Item = M::Item> + Copy>(
     out: M,
