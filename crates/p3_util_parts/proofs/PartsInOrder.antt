@@ -13,7 +13,7 @@ use Rattle.p3_util_parts.specs.Interleaved.{region_of}
 use Rattle.p3_util_kernels.specs.Mirrored.{Mirrored}
 use Rattle.p3_util_parts.specs.Parts.{part_of_matrix, parts_in, start_of}
 use Rattle.p3_util_parts.specs.Plans.{IsPartMade, IsReversalPlan, parts_of, width_of}
-use Rattle.p3_util_kernels.specs.Region.{IsInRegion, IsRegionTransposed, items_of}
+use Rattle.p3_util_kernels.specs.Region.{IsRegionTransposed, items_of}
 use Rattle.p3_util_kernels.specs.Reversal.{IsRowReversal}
 use Rattle.p3_util_kernels.specs.SwapCounts.{row_swaps, short_swaps}
 use Rattle.p3_util_kernels.specs.Transpose.{IsTranspose}
@@ -46,11 +46,6 @@ before-low : (width height : ℕ) (by_rows : Bool) (len part_len n : ℕ) → (0
 before-low width height true len part_len n side = elim (cases_eq len 0) [ inl none ↦ omega (arith, none) | inr some ↦ omega (arith, side (omega (arith, some))) ]
 before-low width height false len part_len n side = omega arith
 
--- before the first part there is nothing
-before-none : (width height : ℕ) (by_rows : Bool) (len part_len x y : ℕ) → IsInRegion (before width height by_rows len part_len 0) x y → ⊥
-before-none width height true len part_len x y at = omega (arith, at.row_to)
-before-none width height false len part_len x y at = omega (arith, at.col_to)
-
 before-zero : (width height : ℕ) (by_rows : Bool) (len part_len n : ℕ) → start_of len part_len n ≡ 0 → items_of (before width height by_rows len part_len n) ≡ 0
 before-zero width height true len part_len n none = rw none (omega arith)
 before-zero width height false len part_len n none = rw none (omega arith)
@@ -65,20 +60,11 @@ abbrev pub put_of : (plan : TransposePlan) (n : ℕ) → Region
 put_of plan n = before plan.width plan.height plan.by_rows plan.cut.len plan.cut.part_len n
 
 module _ (plan : TransposePlan) where
-  pub put-none : {A : Type 0} (input xs : List A) → IsRegionTransposed (put_of plan 0) plan.width plan.height input xs xs
-  put-none input xs = record {
-    same_length = refl;
-    places = λ x y at. absurd (before-none plan.width plan.height plan.by_rows plan.cut.len plan.cut.part_len x y at);
-    others = λ p out. refl;
-  }
 
   pub put-more : {A : Type 0} (n : ℕ) (input xs ys zs : List A) → IsRegionTransposed (put_of plan n) plan.width plan.height input xs ys
       → IsRegionTransposed (region_of plan n) plan.width plan.height input ys zs → IsRegionTransposed (put_of plan (n + 1)) plan.width plan.height input xs zs
   put-more n input xs ys zs = IsRegionTransposed-cut plan.width plan.height input (put_of plan (n + 1)) (put_of plan n) (region_of plan n) xs ys zs
       (before-low plan.width plan.height plan.by_rows plan.cut.len plan.cut.part_len (n + 1) plan.side) (before-next plan.width plan.height plan.by_rows plan.cut.len plan.cut.part_len n)
-
-  pub puts-zero : items_of (put_of plan 0) ≡ 0
-  puts-zero = before-zero plan.width plan.height plan.by_rows plan.cut.len plan.cut.part_len 0 (omega arith)
 
   pub puts-more : (n : ℕ) → items_of (put_of plan n) + items_of (region_of plan n) ≡ items_of (put_of plan (n + 1))
   puts-more n = (before-next plan.width plan.height plan.by_rows plan.cut.len plan.cut.part_len n).items

@@ -18,11 +18,10 @@ use Rattle.p3_util_parts.specs.Interleaved.{AreOfParts, IsInterleaved, IsMadeAlo
 use Rattle.p3_util_kernels.specs.Least.{AllDiffer, AreOnceAmong, after_puts, after_swaps, places_put, places_swapped}
 use Rattle.p3_util_parts.specs.Parts.{parts_in}
 use Rattle.p3_util_parts.specs.PlacesOfParts.{IsPlaceOfPart, IsPlaceOfRegion, NoItemInCommon, NoPlaceInCommon}
-use Rattle.p3_util_kernels.specs.Least.{SwapsLead}
-use Rattle.p3_util_parts.specs.Plans.{IsPartMade, IsReversalPlan, parts_of, width_of}
+use Rattle.p3_util_parts.specs.Plans.{IsReversalPlan, parts_of, width_of}
 use Rattle.p3_util_kernels.specs.Region.{LiesInMatrix}
 use Rattle.p3_util_kernels.specs.Reversal.{IsRowReversal}
-use Rattle.p3_util_kernels.specs.SwapCounts.{row_swaps, short_swaps}
+use Rattle.p3_util_kernels.specs.SwapCounts.{row_swaps}
 use Rattle.p3_util_kernels.specs.Logarithms.{clog}
 use Rattle.p3_util_kernels.specs.Transpose.{IsTranspose}
 use Rattle.p3_util_parts.proofs.PatchesLemmas.{patch-covered}
@@ -292,9 +291,3 @@ swaps-reverse (Whole n width) old lists all of alone is =
     ]
 swaps-reverse (Patches pairs) old lists all of alone is =
     (reversal-of_any pairs.rows.width all old (all-reversed pairs (length old) of lists all alone is), all-counted pairs (length old) of lists all alone is)
-
--- exchanges that make a part, if it is known that there are some
-pub alone-from : {A : Type 0} (plan : ReversalPlan) (k : ℕ) (old new : List A) → IsPartMade plan k old new (λ n. SwapsLead n old new)
-    → (steps : List (ℕ × ℕ)) × (new ≡ after_swaps old steps) × IsMadeAlone plan k old steps
-alone-from (Whole _ width) k old new (made, (steps, many, leads)) = (steps, sym leads, rw leads (made, many))
-alone-from (Patches pairs) k old new (middle, part, patch, made, (steps, many, leads)) = (steps, sym leads, rw leads (middle, part, patch, made, many))

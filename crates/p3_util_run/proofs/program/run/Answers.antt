@@ -1,16 +1,9 @@
 -- How each ending of a run follows from what it read, answered and wrote.
-use Rattle.std.proofs.Common.{sym, subst, string_bytes, Err}
+use Rattle.std.proofs.Common.{string_bytes, Err}
 use Rattle.std.specs.Prelude.{⊤}
-use Rattle.p3_util_run.specs.Program.{Answers, texts_of}
-use Rattle.p3_util_run.proofs.Endings.{answers, ends_refused, ends_written, one_text, refuses, wrote}
+use Rattle.p3_util_run.specs.Program.{texts_of}
+use Rattle.p3_util_run.proofs.Endings.{answers, ends_refused, ends_written, one_text, refuses}
 use Rattle.p3_util_run.proofs.program.run.Goals as goal
-
-pub returns-in-Ok-clause-ok : goal.returns-in-Ok-clause-ok
-returns-in-Ok-clause-ok g c =
-    wrote (texts_of c.args.words.now) c.in-Some.command _ _ _ _ c.in_ok-input.input.items c.as_bytes.result.now c.write_all.result c.in-Some.ensures
-    c.in_ok-input.ensures.read
-    (subst (Answers c.in-Some.command c.in_ok-input.input.items) (sym c.as_bytes.ensures.value) c.in-Ok.ensures.ok)
-    c.write_all.ensures.written
 
 pub returns-in-Ok-clause-answers : goal.returns-in-Ok-clause-answers
 returns-in-Ok-clause-answers g c =
