@@ -1,7 +1,7 @@
 //! Two slices seen as one list, which a kernel reorders like any other holder, and callers. In the
 //! function that makes a struct of two `&mut`, a proof does not know what is behind both when they
-//! end, so `reverse_joined` takes the holder. The file needs only `p3_util`, so it can be copied as
-//! it is.
+//! end, so `reverse_joined` takes the holder. To use the file elsewhere, copy `count_swaps` and
+//! `proofs/JoinedLemmas.antt` too.
 
 ghost use Rattle.std.specs.Prelude.{◌≡◌, ◌+◌, ◌++◌, ◌^◌, ◌<◌, length, swap};
 ghost use Rattle.std.proofs.Common.{rules};
