@@ -1,1 +1,2 @@
 pub mod Diagonal
+pub mod MapCalls

@@ -1,9 +1,10 @@
 //! Callers of `p3_util`, proved from public contracts alone: compositions of its calls, a holder of
-//! two slices, and short uses.
+//! two slices, lists of calls on a map, and short uses.
 #![tactic(auto)]
 
 pub mod compose;
 pub mod joined;
+pub mod linear_map;
 pub mod quadrants;
 pub mod tiles;
 pub mod uses;

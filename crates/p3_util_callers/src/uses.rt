@@ -8,14 +8,18 @@ ghost use Rattle.p3_util.specs.Flat.{flat};
 ghost use Rattle.p3_util.specs.Levels.{lev};
 ghost use Rattle.p3_util.specs.LinearMap.{put, value_at};
 ghost use Rattle.p3_util.specs.Pieces.{padded_pieces, pieces};
-ghost use Rattle.p3_util.specs.Region.{IsRegionTransposed};
+ghost use Rattle.p3_util.specs.Region.{IsRegionTransposed, LiesInMatrix, items_of};
 ghost use Rattle.p3_util.specs.Reversal.{IsReversal, IsReversible, IsZeroOrPowerOfTwo};
-ghost use Rattle.p3_util.specs.SwapCounts.{reversal_swaps};
+ghost use Rattle.p3_util.specs.Steps.{counted};
+ghost use Rattle.p3_util.specs.SwapCounts.{reversal_swaps, square_swaps};
+ghost use Rattle.p3_util.specs.Transpose.{IsTranspose};
 
 use p3_util::array_serialization::{ArrayElement, deserialize, serialize};
 use p3_util::linear_map::LinearMap;
-use p3_util::places::{Cells, Places, SlicePlaces, Swaps, Writes};
-use p3_util::transpose::{Region, fits_matrix, transpose_region_on};
+use p3_util::places::{Cells, Places, SlicePlaces, Source, Swaps, Writes};
+use p3_util::transpose::{
+    Region, fits_matrix, transpose_region_on, transpose_source_split_on, transpose_square_on,
+};
 use p3_util::zip_eq::zip_eq;
 use p3_util::{
     NoRoom, apply_to_chunks, as_base_slice_mut, fits_rows, flat_len, flatten_to_base,
@@ -62,6 +66,45 @@ pub fn levels_of(rows: usize, cols: usize) -> u32
     let tall = log2_ceil_usize(rows).saturating_sub(7);
     let wide = log2_ceil_usize(cols).saturating_sub(7);
     (tall + wide) as u32
+}
+
+/// Writes the transpose of a region of any source, with 64 levels, which are enough for every
+/// region. Returns the number of writes.
+#[tactic(auto, using(p3_util_kernels::proofs::TransposeLemmas::Halves::region_levels))]
+pub fn transpose_source_by_splits<R, C>(
+    input: &R,
+    out: &mut C,
+    region: Region,
+    width: usize,
+    height: usize,
+) -> u128
+where
+    C: Cells,
+    R: Source<Item = C::Item>,
+    requires input_fits { length (R.items input.now) ≡ width * height }
+    requires output_fits { length (C.items out.old) ≡ width * height }
+    requires inside { LiesInMatrix region width height }
+    ensures transposed { IsRegionTransposed region width height (R.items input.now)
+        (C.items out.old) (C.items out.new) }
+    ensures count { result ≡ counted 0 (items_of region) }
+    ensures holder { C.same_holder (items_of region) out.old out.new }
+{
+    let mut out = Writes::new(out);
+    transpose_source_split_on(input, &mut out, region, width, height, 64);
+    out.writes()
+}
+
+/// Transposes a whole matrix of `2^log_size` rows of as many items in place.
+#[tactic(auto, using(crate::proofs::QuadrantsLemmas::whole_square))]
+pub fn transpose_whole_square<S: Places>(m: &mut Swaps<S>, log_size: usize)
+    requires fits { length (S.items m.old.holder) ≡ 2 ^ log_size * 2 ^ log_size }
+    requires small { log_size < 64 }
+    ensures order { IsTranspose (2 ^ log_size) (2 ^ log_size) (S.items m.old.holder)
+        (S.items m.new.holder) }
+    ensures count { m.new.count ≡ counted m.old.count (square_swaps (2 ^ log_size)) }
+    ensures holder { S.same_holder (square_swaps (2 ^ log_size)) m.old.holder m.new.holder }
+{
+    transpose_square_on(m, 0, log_size, log_size);
 }
 
 /// Reverses a list of any holder by index bits, and returns the number of swaps.

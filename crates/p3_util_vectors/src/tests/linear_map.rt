@@ -4,44 +4,11 @@ use crate::keys::Spelling;
 use crate::tests::checks::{equal, found, same};
 use Call::{Get, GetOrInsert, Insert, Write};
 use p3_util::linear_map::LinearMap;
-use std::alloc::{AllocError, Global};
+use p3_util_callers::linear_map::{Call, run_call};
+use std::alloc::Global;
 use std::cell::Cell;
 use std::fmt::Debug;
-use std::mem::replace;
 use std::process::Abort;
-
-/// A call on a map.
-#[derive(Drop)]
-enum Call<K, V> {
-    Insert(K, V),
-    Get(K),
-    /// Writes to the value that `get_mut` lends, if the key is in the map.
-    Write(K, V),
-    /// `get_or_insert_with` with a closure that returns the value.
-    GetOrInsert(K, V),
-}
-
-/// Makes one call and returns its answer.
-fn run_call<K: Eq + Copy, V: Copy>(
-    map: &mut LinearMap<K, V>,
-    call: &Call<K, V>,
-) -> Result<Option<V>, AllocError> {
-    match call {
-        Call::Insert(k, v) => match map.insert(*k, *v) {
-            Ok(old) => Ok(old),
-            Err(_) => Err(AllocError),
-        },
-        Call::Get(k) => Ok(map.get(k).copied()),
-        Call::Write(k, v) => match map.get_mut(k) {
-            Some(value) => Ok(Some(replace(value, *v))),
-            None => Ok(None),
-        },
-        Call::GetOrInsert(k, v) => match map.get_or_insert_with(*k, || *v) {
-            Ok(value) => Ok(Some(*value)),
-            Err(_) => Err(AllocError),
-        },
-    }
-}
 
 /// Asserts what the calls of a script on a new map return, and its pairs at the end.
 ///

@@ -1,4 +1,4 @@
-use Rattle.std.proofs.Common.{◌-◌, refl, sym, ◌∙◌, arith}
+use Rattle.std.proofs.Common.{refl, sym, ◌∙◌, arith}
 use Rattle.p3_util_callers.proofs.ComposeLemmas.{reversed_by_squares}
 use Rattle.p3_util_callers.proofs.compose.reverse_by_squares.Goals as goal
 
