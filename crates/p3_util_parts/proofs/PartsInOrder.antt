@@ -60,7 +60,6 @@ abbrev pub put_of : (plan : TransposePlan) (n : ℕ) → Region
 put_of plan n = before plan.width plan.height plan.by_rows plan.cut.len plan.cut.part_len n
 
 module _ (plan : TransposePlan) where
-
   pub put-more : {A : Type 0} (n : ℕ) (input xs ys zs : List A) → IsRegionTransposed (put_of plan n) plan.width plan.height input xs ys
       → IsRegionTransposed (region_of plan n) plan.width plan.height input ys zs → IsRegionTransposed (put_of plan (n + 1)) plan.width plan.height input xs zs
   put-more n input xs ys zs = IsRegionTransposed-cut plan.width plan.height input (put_of plan (n + 1)) (put_of plan n) (region_of plan n) xs ys zs
