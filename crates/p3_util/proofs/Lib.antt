@@ -1,4 +1,5 @@
 -- The modules of lemmas of this crate.
+pub mod Callers
 pub mod FilledChunk
 pub mod FilledFront
 pub mod FlatLemmas

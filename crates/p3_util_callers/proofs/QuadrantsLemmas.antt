@@ -1,12 +1,11 @@
--- A square transposed by quadrants, and one that is a whole list.
-use Rattle.std.proofs.Common.{◌≡◌, ◌≢◌, ℕ, ◌+◌, ◌-◌, ◌*◌, ◌^◌, ◌<◌, ◌≤◌, List, length, zero-add, ◌∙◌, ap, arith}
+-- A square transposed by quadrants.
+use Rattle.std.proofs.Common.{◌≡◌, ◌≢◌, ℕ, ◌+◌, ◌-◌, ◌*◌, ◌^◌, ◌<◌, ◌≤◌, List, ◌∙◌, ap, arith}
 use Rattle.std.proofs.lemmas.Nat.{pow-add, pow_pos}
 use Rattle.std.proofs.Math.Pow.{pow_mono}
 use Rattle.p3_util_kernels.specs.declared.transpose.regions.Region.{Region}
 use Rattle.p3_util_callers.specs.Diagonal.{SwapsAcross}
 use Rattle.p3_util_kernels.specs.Square.{IsSquareTransposed}
 use Rattle.p3_util_kernels.specs.SwapCounts.{square_swaps}
-use Rattle.p3_util_kernels.specs.Transpose.{IsTranspose}
 use Rattle.p3_util_callers.proofs.DiagonalLemmas.{IsSquareTransposed-from_across, SwapsAcross-quadrants, cut_exchanged}
 use Rattle.p3_util_kernels.proofs.GridLemmas.Pairs.{mul-parts_left, pairs-add}
 use Rattle.p3_util_kernels.proofs.TransposeLemmas.Region.{IsCut-rows}
@@ -81,11 +80,3 @@ module _ (base log_stride log_size : ℕ) (some : log_size ≢ 0) where
         (rw (← side) (SwapsAcross-quadrants base (2 ^ log_stride) 0 half (half + half) old one two new (omega arith) (omega arith)
         (rw start at (across_of_square base log_stride (log_size - 1) 0 old one (omega (arith, quadrants_within)) (rw none first)))
         (rw two_halves at across) (across_of_square base log_stride (log_size - 1) half two new (omega (arith, quadrants_within)) last)))
-
--- a square that is a whole list is transposed as a matrix
-pub whole_square : {A : Type 0} (k : ℕ) (old new : List A) → IsSquareTransposed 0 k k old new → length old ≡ 2 ^ k * 2 ^ k
-    → IsTranspose (2 ^ k) (2 ^ k) old new
-whole_square k old new square len = record {
-  same_length = square.same_length ∙ len;
-  places = λ x y hx hy. simp zero-add at (square.places x y hx hy);
-}

@@ -95,7 +95,7 @@ where
 }
 
 /// Transposes a whole matrix of `2^log_size` rows of as many items in place.
-#[tactic(auto, using(crate::proofs::QuadrantsLemmas::whole_square))]
+#[tactic(auto, using(p3_util::proofs::Callers::whole_square))]
 pub fn transpose_whole_square<S: Places>(m: &mut Swaps<S>, log_size: usize)
     requires fits { length (S.items m.old.holder) ≡ 2 ^ log_size * 2 ^ log_size }
     requires small { log_size < 64 }
