@@ -14,8 +14,8 @@ use crate::choice::{
     is_streamed, row_blocks_of, side_of, strips_of,
 };
 use p3_util_kernels::kernel::{
-    Ahead, Blocked, Blocks, Columns, InCols, InRows, LARGE_MATRIX, Matrix, Order, Outlined, PutRegion,
-    RowDigits, ShortColumns, Tiled, UNIT, put_as_block, reverse_short,
+    Ahead, Blocked, Blocks, Columns, InCols, InRows, LARGE_MATRIX, Matrix, Order, Outlined,
+    PutRegion, RowDigits, ShortColumns, Tiled, UNIT, put_as_block, reverse_short,
 };
 use p3_util_kernels::places::{Cells, Source};
 use p3_util_kernels::transpose::Region;

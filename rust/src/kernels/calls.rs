@@ -9,8 +9,8 @@ use crate::kernels::choice::{
     is_streamed, row_blocks_of, side_of, strips_of,
 };
 use crate::kernels::kernel::{
-    Ahead, Blocked, Blocks, Columns, InCols, InRows, LARGE_MATRIX, Matrix, Order, Outlined, PutRegion,
-    RowDigits, ShortColumns, Tiled, UNIT, put_as_block, reverse_short,
+    Ahead, Blocked, Blocks, Columns, InCols, InRows, LARGE_MATRIX, Matrix, Order, Outlined,
+    PutRegion, RowDigits, ShortColumns, Tiled, UNIT, put_as_block, reverse_short,
 };
 use crate::kernels::places::{Cells, Source};
 use crate::kernels::transpose::Region;
