@@ -96,7 +96,8 @@ def check_links_and_names():
     words = {word for path in tracked if not path.endswith((".md", ".svg", ".tsv")) and path != "tests/pages.py"
              for word in re.findall(r"\w+", read(path))} | OUTSIDE
     words |= {os.path.basename(path)[:-len(".edit")] for path in tracked if path.endswith(".edit")}
-    paths = {"/" + "/".join(path.split("/")[:k]) for path in tracked for k in range(1, path.count("/") + 2)}
+    # A release has one more file.
+    paths = {"/" + "/".join(path.split("/")[:k]) for path in [*tracked, "docs/contracts.txt"] for k in range(1, path.count("/") + 2)}
     for page, text in pages.items():
         # Replaces blocks of code with blanks of the same length.
         text = re.sub(r"^```.*?^```", lambda block: re.sub(r"[^\n]", " ", block.group()), text, flags=re.M | re.S)

@@ -38,7 +38,7 @@ use alloc::string::String;
 use core::any::type_name;
 
 mod bits;
-/// The proved code. The contracts are in docs/contracts.txt of the repository and of a release.
+/// The proved code. The contracts are in docs/contracts.txt of a release, and in the repository beside the functions.
 ///
 /// Here a reversal or a transpose also takes a list of your own, by a *holder*: a value that gives access to a list by
 /// index. Calls that count tell you how many swaps or writes they make, and their contracts give the exact number.
