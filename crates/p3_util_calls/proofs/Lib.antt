@@ -1,3 +1,14 @@
 -- The modules of lemmas of this crate.
+pub mod Asked
+pub mod CutParts
+pub mod InterleavedSteps
+pub mod MirrorSteps
+pub mod PartPlaces
+pub mod PartsInOrder
+pub mod PartsLaw
+pub mod PatchSteps
+pub mod PatchSums
+pub mod PatchesLemmas
+pub mod RegionSteps
 pub mod RowBytes
 pub mod WholeMatrix

@@ -1,0 +1,5 @@
+pub mod Interleaved
+pub mod Parts
+pub mod Patches
+pub mod PlacesOfParts
+pub mod Plans

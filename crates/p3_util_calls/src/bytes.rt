@@ -3,12 +3,12 @@
 
 ghost use Rattle.std.specs.Prelude.{◌≡◌, ℕ, ◌*◌, ◌/◌, ◌%◌, ◌^◌, ◌<◌, IfErr, IfOk};
 ghost use Rattle.p3_util_kernels.specs.Reversal.{FitsRows};
-ghost use Rattle.p3_util_parts.specs.declared.parts.RowPairs.{RowPairs};
-ghost use Rattle.p3_util_parts.specs.declared.parts.reversal.ReversalPlan.TheVariants.{Patches, Whole};
-ghost use Rattle.p3_util_parts.specs.Plans.{IsReversalPlan, width_of};
+ghost use Rattle.p3_util_calls.specs.declared.parts.RowPairs.{RowPairs};
+ghost use Rattle.p3_util_calls.specs.declared.parts.reversal.ReversalPlan.TheVariants.{Patches, Whole};
+ghost use Rattle.p3_util_calls.specs.Plans.{IsReversalPlan, width_of};
 
 use crate::choice::LONG_BYTES;
-use p3_util_parts::parts::{Part, ReversalPlan, RowPairs};
+use crate::parts::{Part, ReversalPlan, RowPairs};
 
 /// The instances that a build has. Only the time depends on them.
 pub(crate) trait Instances {

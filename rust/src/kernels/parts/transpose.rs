@@ -1,4 +1,4 @@
-// rust/erase writes this file from crates/p3_util_parts/src/parts/transpose.rt. Make changes there.
+// rust/erase writes this file from crates/p3_util_calls/src/parts/transpose.rt. Make changes there.
 //! The regions that the transpose of a matrix is cut into.
 
 use crate::kernels::parts::Cut;

@@ -1,7 +1,7 @@
 -- Each turn of the loop puts one more part. After the loop the matrix is transposed.
 use Rattle.std.proofs.Common.{◌≡◌, ◌∙◌, arith}
-use Rattle.p3_util_parts.specs.Parts.{parts_in}
-use Rattle.p3_util_parts.proofs.PartsInOrder.{put-all, put-more, puts-more}
+use Rattle.p3_util_calls.specs.Parts.{parts_in}
+use Rattle.p3_util_calls.proofs.PartsInOrder.{put-all, put-more, puts-more}
 use Rattle.p3_util_calls.proofs.laws.put_parts.Goals as goal
 
 pub loop-part-preserved : goal.loop-part-preserved

@@ -1,7 +1,7 @@
 use Rattle.std.proofs.Common.{◌≡◌, ◌-◌}
 use Rattle.p3_util_kernels.specs.Region.{IsRegionTransposed, items_of}
-use Rattle.p3_util_parts.specs.Parts.{parts_in}
-use Rattle.p3_util_parts.proofs.PartsInOrder.{put_of}
+use Rattle.p3_util_calls.specs.Parts.{parts_in}
+use Rattle.p3_util_calls.proofs.PartsInOrder.{put_of}
 use Rattle.p3_util_calls.proofs.laws.put_parts.Given as goal
 
 -- the parts that are handed out are put

@@ -1,7 +1,7 @@
 -- Each turn of the loop makes one more part. After the loop the rows are reversed.
 use Rattle.std.proofs.Common.{◌≡◌, ◌∙◌, ◌<◌}
-use Rattle.p3_util_parts.specs.Plans.{parts_of}
-use Rattle.p3_util_parts.proofs.PartsInOrder.{made-all, made-length, made-more, made-none, swaps-all, swaps-more, swaps-none}
+use Rattle.p3_util_calls.specs.Plans.{parts_of}
+use Rattle.p3_util_calls.proofs.PartsInOrder.{made-all, made-length, made-more, made-none, swaps-all, swaps-more, swaps-none}
 use Rattle.p3_util_calls.proofs.laws.reverse_parts.Goals as goal
 
 pub loop-part-init : goal.loop-part-init

@@ -1,6 +1,6 @@
 use Rattle.std.proofs.Common.{◌≡◌, ◌-◌, length}
-use Rattle.p3_util_parts.specs.Plans.{parts_of}
-use Rattle.p3_util_parts.proofs.PartsInOrder.{AreMade, swaps_made}
+use Rattle.p3_util_calls.specs.Plans.{parts_of}
+use Rattle.p3_util_calls.proofs.PartsInOrder.{AreMade, swaps_made}
 use Rattle.p3_util_calls.proofs.laws.reverse_parts.Given as goal
 
 -- the parts that are handed out are made
