@@ -2,6 +2,7 @@
 pub mod Asked
 pub mod CutParts
 pub mod InterleavedSteps
+pub mod LinesLemmas
 pub mod MirrorSteps
 pub mod PartPlaces
 pub mod PartsInOrder

@@ -1,4 +1,5 @@
 pub mod Interleaved
+pub mod Lines
 pub mod Parts
 pub mod Patches
 pub mod PlacesOfParts

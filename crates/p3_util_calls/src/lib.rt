@@ -6,5 +6,6 @@ pub(crate) mod bytes;
 pub(crate) mod calls;
 pub(crate) mod choice;
 mod laws;
+pub(crate) mod lines;
 pub(crate) mod part;
 pub(crate) mod parts;

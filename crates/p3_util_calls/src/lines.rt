@@ -6,7 +6,7 @@
 //! the columns.
 
 ghost use Rattle.std.specs.Prelude.{◌≡◌, ℕ, ◌+◌, ◌^◌, ◌<◌, ◌≤◌, List};
-ghost use Rattle.p3_util_registers.specs.Lines.{IsPutTo, cells_before, items_to, limit};
+ghost use Rattle.p3_util_calls.specs.Lines.{IsPutTo, cells_before, items_to, limit};
 ghost use Rattle.p3_util_kernels.specs.Region.{IsReady, IsRegionTransposed, items_of, rows_of};
 
 use p3_util_kernels::kernel::{
@@ -26,8 +26,7 @@ const MOST_ROWS: usize = 1 << 62;
 
 /// The cache lines of an output.
 #[derive(Clone, Copy, PartialEq, Eq)]
-#[doc(hidden)]
-pub struct Lines {
+pub(crate) struct Lines {
     /// The number of cells of a line, a power of two.
     cells: usize,
     /// The first cell of the output is the one after so many others of its line.
@@ -40,8 +39,7 @@ impl Lines {
     /// Lines of `cells` cells. The first cell of the output is the one after `before` others of its
     /// line.
     #[inline(always)]
-    #[doc(hidden)]
-    pub fn new(cells: usize, before: usize) -> Lines
+    pub(crate) fn new(cells: usize, before: usize) -> Lines
         requires some_cells { 0 < cells }
         requires few_cells { cells < 2 ^ 32 }
         ensures cells { result.cells ≡ cells }

@@ -1,9 +1,9 @@
 -- Each turn of a loop puts some more columns one line further.
 use Rattle.std.proofs.Common.{◌≡◌, ℕ, ◌+◌, ◌<◌, ◌≤◌, inl, inr, refl, sym, ◌∙◌, arith}
-use Rattle.p3_util_registers.specs.Lines.{limit}
-use Rattle.p3_util_registers.proofs.LinesLemmas.{IsPutTo-same, ahead, ahead-left, ahead-right, further, items_to-same, limit-alike, limit-whole}
-use Rattle.p3_util_registers.proofs.lines.put_row.Goals as goal
-use Rattle.p3_util_registers.proofs.lines.put_row.Goals.{then-skew-eq0+else-loop-col-test, else-skew-eq0}
+use Rattle.p3_util_calls.specs.Lines.{limit}
+use Rattle.p3_util_calls.proofs.LinesLemmas.{IsPutTo-same, ahead, ahead-left, ahead-right, further, items_to-same, limit-alike, limit-whole}
+use Rattle.p3_util_calls.proofs.lines.put_row.Goals as goal
+use Rattle.p3_util_calls.proofs.lines.put_row.Goals.{then-skew-eq0+else-loop-col-test, else-skew-eq0}
 
 pub loop-col-init : goal.loop-col-init
 loop-col-init g c =

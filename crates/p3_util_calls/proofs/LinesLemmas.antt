@@ -4,7 +4,7 @@ use Rattle.std.proofs.lemmas.Bool.{cases_lt}
 use Rattle.std.proofs.lemmas.Nat.{same_from_place}
 use Rattle.p3_util_kernels.specs.declared.transpose.regions.Region.{Region}
 use Rattle.p3_util_kernels.specs.Sums.{sum_below}
-use Rattle.p3_util_registers.specs.Lines.{IsPutTo, cells_before, items_to, limit}
+use Rattle.p3_util_calls.specs.Lines.{IsPutTo, cells_before, items_to, limit}
 use Rattle.p3_util_kernels.specs.Region.{IsInRegion, IsRegionTransposed, cols_of, items_of, rows_of}
 use Rattle.p3_util_kernels.proofs.BitsLemmas.Sums.{sum_below-same}
 

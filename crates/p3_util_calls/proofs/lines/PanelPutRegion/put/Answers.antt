@@ -1,10 +1,10 @@
 -- Each turn of the inner loop puts some more columns one line further, and each turn of the outer loop all columns.
 use Rattle.std.proofs.Common.{◌≡◌, ℕ, ◌+◌, ◌-◌, ◌<◌, ◌≤◌, bit_and, inl, inr, refl, sym, ◌∙◌, arith}
-use Rattle.p3_util_registers.specs.Lines.{items_to, limit}
+use Rattle.p3_util_calls.specs.Lines.{items_to, limit}
 use Rattle.p3_util_kernels.specs.Region.{items_of}
-use Rattle.p3_util_registers.proofs.LinesLemmas.{IsPutTo-all, IsPutTo-none, IsPutTo-same, ahead, ahead-here, ahead-left, ahead-right, ahead-still, further, items_to-all, items_to-none, items_to-same, limit-all, limit-more, limit-none}
-use Rattle.p3_util_registers.proofs.lines.PanelPutRegion.put.Goals as goal
-use Rattle.p3_util_registers.proofs.lines.PanelPutRegion.put.Goals.{then-from-to, else-from-to}
+use Rattle.p3_util_calls.proofs.LinesLemmas.{IsPutTo-all, IsPutTo-none, IsPutTo-same, ahead, ahead-here, ahead-left, ahead-right, ahead-still, further, items_to-all, items_to-none, items_to-same, limit-all, limit-more, limit-none}
+use Rattle.p3_util_calls.proofs.lines.PanelPutRegion.put.Goals as goal
+use Rattle.p3_util_calls.proofs.lines.PanelPutRegion.put.Goals.{then-from-to, else-from-to}
 
 pub loop-done-init : goal.loop-done-init
 loop-done-init g c =

@@ -1,7 +1,7 @@
 use Rattle.std.proofs.Common.{◌≡◌, ◌+◌, ◌-◌, ◌≤◌, List, length}
-use Rattle.p3_util_registers.specs.Lines.{IsPutTo, items_to, limit}
-use Rattle.p3_util_registers.proofs.LinesLemmas.{ahead}
-use Rattle.p3_util_registers.proofs.lines.put_row.Given as goal
+use Rattle.p3_util_calls.specs.Lines.{IsPutTo, items_to, limit}
+use Rattle.p3_util_calls.proofs.LinesLemmas.{ahead}
+use Rattle.p3_util_calls.proofs.lines.put_row.Given as goal
 
 -- the columns before `col` are put one line further
 abbrev pub invariant-loop-col : goal.invariant-loop-col

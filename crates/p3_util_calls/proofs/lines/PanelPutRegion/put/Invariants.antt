@@ -1,8 +1,8 @@
 use Rattle.std.proofs.Common.{◌+◌, ◌-◌, ◌≤◌}
-use Rattle.p3_util_registers.specs.Lines.{IsPutTo, items_to, limit}
+use Rattle.p3_util_calls.specs.Lines.{IsPutTo, items_to, limit}
 use Rattle.p3_util_kernels.specs.Region.{rows_of}
-use Rattle.p3_util_registers.proofs.LinesLemmas.{ahead}
-use Rattle.p3_util_registers.proofs.lines.PanelPutRegion.put.Given as goal
+use Rattle.p3_util_calls.proofs.LinesLemmas.{ahead}
+use Rattle.p3_util_calls.proofs.lines.PanelPutRegion.put.Given as goal
 
 -- each column is put as far as `done` rows after the line of its first cell begins
 abbrev pub invariant-loop-done : goal.invariant-loop-done
