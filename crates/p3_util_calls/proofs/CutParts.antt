@@ -80,13 +80,6 @@ module _ (len unit units part_len : ℕ) (some : 0 < unit) (most : 0 < units) (f
       let e : units * unit ≤ n * unit = mul-le-mul_right unit (omega (arith, d, units_are)) in
       omega (arith, e)
 
--- the last part ends where the length does
-pub start-end : (len part_len : ℕ) → 0 < part_len → start_of len part_len (parts_in len part_len) ≡ len
-start-end len part_len some = omega (arith, (div_ceil_times len part_len some).0)
-
-pub start-next : (len part_len k : ℕ) → start_of len part_len k ≤ start_of len part_len (k + 1)
-start-next len part_len k = let more : k * part_len ≤ (k + 1) * part_len = mul-le-mul_right part_len (omega arith) in omega (arith, more)
-
 -- a part ends before a later part begins, or where it begins
 pub start-rising : (len part_len k l : ℕ) → k < l → start_of len part_len (k + 1) ≤ start_of len part_len l
 start-rising len part_len k l less = let rows : suc k * part_len ≤ l * part_len = mul-le-mul_right part_len less in omega (arith, rows)

@@ -5,10 +5,8 @@ pub mod InterleavedSteps
 pub mod LinesLemmas
 pub mod MirrorSteps
 pub mod PartPlaces
-pub mod PartsInOrder
 pub mod PartsLaw
 pub mod PatchSteps
-pub mod PatchSums
 pub mod PatchesLemmas
 pub mod RegionSteps
 pub mod RowBytes

@@ -1,4 +1,4 @@
--- The law for the parts of a call, for `src/parts/laws.rt`: which places a part has, and that
+-- The law for the parts of a call, for `src/laws.rt`: which places a part has, and that
 -- interleaved steps of all parts are the call, on every list.
 use Rattle.std.proofs.Common.{◌≡◌, ◌≢◌, ℕ, zero, suc, true, ◌+◌, ◌-◌, ◌*◌, ◌/◌, ◌%◌, ◌^◌, ◌<◌, if◌then◌else◌, List, [], ◌∷◌, Some, get_or, length, map, slice_get, inl, inr, refl, sym, ◌∙◌, ap, arith}
 use Rattle.std.specs.Prelude.{swap}
@@ -21,7 +21,7 @@ use Rattle.p3_util_calls.specs.PlacesOfParts.{IsPlaceOfPart, IsPlaceOfRegion, No
 use Rattle.p3_util_calls.specs.Plans.{IsReversalPlan, parts_of, width_of}
 use Rattle.p3_util_kernels.specs.Region.{LiesInMatrix}
 use Rattle.p3_util_kernels.specs.Reversal.{IsRowReversal}
-use Rattle.p3_util_kernels.specs.SwapCounts.{row_swaps}
+use Rattle.p3_util_kernels.specs.SwapCounts.{row_swaps, short_swaps}
 use Rattle.p3_util_kernels.specs.Logarithms.{clog}
 use Rattle.p3_util_kernels.specs.Transpose.{IsTranspose}
 use Rattle.p3_util_calls.proofs.PatchesLemmas.{patch-covered}
@@ -35,9 +35,8 @@ use Rattle.p3_util_kernels.proofs.LawsLemmas.Least.{count-moved, row_moves, rows
 use Rattle.p3_util_kernels.proofs.BitsLemmas.Logarithms.{clog_power}
 use Rattle.p3_util_kernels.proofs.TransposeLemmas.Matrix.{each_place}
 use Rattle.p3_util_calls.proofs.PartPlaces.{pairs-apart, pairs-exchanged, pairs-inside, part-apart, part-covers, place}
-use Rattle.p3_util_calls.proofs.PartsInOrder.{swaps-empty}
 use Rattle.p3_util_calls.proofs.RegionSteps.{region-stays}
-use Rattle.p3_util_kernels.proofs.ReverseLemmas.Lengths.{IsDigitsOfRows-from}
+use Rattle.p3_util_kernels.proofs.ReverseLemmas.Lengths.{IsDigitsOfRows-from, no_digits}
 use Rattle.p3_util_kernels.proofs.ReverseLemmas.Reversal.{IsRowReversal-none}
 use Rattle.p3_util_kernels.proofs.PlacesLemmas.WrittenPlaces.{AreOnceAmong-weaker, puts-places, puts-written, swaps-places, swaps-written, written-at, written-count}
 
@@ -273,6 +272,10 @@ module _ (pairs : RowPairs) (len : ℕ) (of : IsReversalPlan len (Patches pairs)
       (λ p less t. (moved p less).0 t) in
       let rows : len / width ≡ 2 ^ digits = ap (λ n. n / width) of.1 ∙ mul-div_cancel_left (2 ^ digits) of.0 in
       rw (clog_power (len / width) digits rows) (omega (arith, count, count-moved width digits, swaps-places all))
+
+-- an empty list has no rows to exchange
+swaps-empty : (len width : ℕ) → len ≡ 0 → row_swaps len width ≡ 0
+swaps-empty len width none = ap (λ d. width * short_swaps d) (no_digits len width none) ∙ omega arith
 
 pub swaps-reverse : {A : Type 0} (plan : ReversalPlan) (old : List A) (lists : List (List (ℕ × ℕ))) (all : List (ℕ × ℕ)) → IsReversalPlan (length old) plan
     → AreOfParts (parts_of plan) (λ k. IsMadeAlone plan k (numbers_below (length old))) lists → IsInterleaved lists all

@@ -1,5 +1,5 @@
 -- The places of the parts of a call. These definitions serve private contracts: those of
--- `src/parts/laws.rt`.
+-- `src/laws.rt`.
 -- Source: new.
 use Rattle.std.specs.Prelude.{◌≡◌, ◌≢◌, ℕ, ◌+◌, ◌-◌, ◌*◌, ◌/◌, ◌<◌, min, max, List, length, slice_get}
 use Rattle.p3_util_calls.specs.declared.parts.reversal.ReversalPlan.{ReversalPlan}

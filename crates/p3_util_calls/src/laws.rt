@@ -14,9 +14,6 @@
 //! [`puts_of_part`] and [`exchanges_of_part`] say that a part makes such steps. So the law holds for
 //! the functions that the package calls.
 //!
-//! **One thread.** [`put_parts`] and [`reverse_parts`] make all parts that are handed out, one after
-//! the other, in any holder.
-//!
 //! **From "n steps exist" to "these steps were made".** `SwapsLead n old new` says that some n swaps
 //! lead from `old` to `new`. Why are these the swaps that a part makes, and why are there no others?
 //! The contract of a kernel holds for every holder and every `same_holder` that meets the laws of
@@ -41,7 +38,6 @@ ghost use Rattle.p3_util_kernels.specs.Transpose.{IsTranspose};
 use crate::calls::Output;
 use crate::choice::Limits;
 use crate::part::{reverse_part, transpose_part};
-use crate::parts::numbers::PartsLeft;
 use crate::parts::{Part, ReversalPlan, TransposePlan};
 use p3_util_kernels::kernel::{Ahead, Blocked, Tiled};
 use p3_util_kernels::places::{Cells, Places};
@@ -215,40 +211,4 @@ pub(crate) fn exchanges_of_part<M: Places>(items: M, part: Part<ReversalPlan>) -
         × IsMadeAlone part.plan part.number (M.items items) steps }
 {
     reverse_part(ExchangeSteps { places: items }, part).places
-}
-
-/// Puts each part that is handed out, as one thread may do. In any holder, whatever it says of itself, this is the transpose, by
-/// as many puts as there are items.
-pub(crate) fn put_parts<M: Output, R: Ahead<Item = M::Item> + Copy>(
-    cells: M,
-    source: R,
-    plan: TransposePlan,
-) -> M
-    requires input_fits { length (R.items source) ≡ plan.width * plan.height }
-    requires output_fits { length (M.items cells) ≡ plan.width * plan.height }
-    ensures transposed { IsTranspose plan.width plan.height (R.items source) (M.items result) }
-    ensures holder { M.same_holder (plan.width * plan.height) cells result }
-{
-    let mut left = PartsLeft::of(plan);
-    let mut cells = cells;
-    while let Some(part) = left.hand_out() {
-        cells = transpose_part(cells, source, part);
-    }
-    cells
-}
-
-/// Makes each part of a reversal that is handed out, as one thread may do. In any holder this is the reversal, by as many
-/// exchanges as the reversal that is not cut.
-pub(crate) fn reverse_parts<M: Tiled>(items: M, plan: ReversalPlan) -> M
-    requires plan { IsReversalPlan (length (M.items items)) plan }
-    requires len_fits { length (M.items items) < 2 ^ 64 }
-    ensures reversed { IsRowReversal (width_of plan) (M.items items) (M.items result) }
-    ensures holder { M.same_holder (row_swaps (length (M.items items)) (width_of plan)) items result }
-{
-    let mut left = PartsLeft::of(plan);
-    let mut items = items;
-    while let Some(part) = left.hand_out() {
-        items = reverse_part(items, part);
-    }
-    items
 }
