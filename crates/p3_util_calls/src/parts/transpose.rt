@@ -90,12 +90,15 @@ impl TransposePlan {
         region.rows() * region.cols()
     }
 
-    /// How many cells each region fills if the columns are cut. They are next to each other, and right after those of the region
-    /// before it. The last region may fill fewer.
+    /// The number of items of the first region, or 0 if there is none. If the columns are cut, each region fills so many cells,
+    /// and the last one may fill fewer. They are next to each other, and right after those of the region before it.
     #[tactic(auto, using(crate::proofs::CutParts::runs_start))]
     pub(crate) fn cells_of_region(self) -> usize
-        ensures { self.by_rows ≡ false → (k : ℕ) → k < parts_in self.cut.len self.cut.part_len
+        ensures starts { self.by_rows ≡ false → (k : ℕ) → k < parts_in self.cut.len self.cut.part_len
             → start_of self.cut.len self.cut.part_len k * self.height ≡ k * result }
+        ensures number { 0 < parts_in self.cut.len self.cut.part_len → result ≡ items_of (part_of_matrix self.width
+            self.height self.by_rows self.cut.len self.cut.part_len 0) }
+        ensures none { parts_in self.cut.len self.cut.part_len ≡ 0 → result ≡ 0 }
     {
         if self.cut.count() == 0 {
             0
