@@ -12,7 +12,7 @@ from rattle_source import declarations, read
 HEAD = """\
 # The public contracts of the crates on which code may rely, and the names of the definitions. docs/CALLING.md explains how to
 # read a contract, and docs/MODEL.md says in words what is promised. Crates of examples and tests are not listed, nor is what
-# only the crates of this repository see, such as all of p3_util_registers, p3_util_parts and p3_util_calls.
+# only the crates of this repository see, such as all of p3_util_registers and p3_util_calls.
 #
 # Below the name of a source are its contracts. All structs are listed, with their private fields, since a clause or a
 # definition may name them. The lines below an implementation of a trait say what a clause sees of that type.

@@ -3,12 +3,13 @@
 
 ghost use Rattle.std.specs.Prelude.{◌≡◌, ℕ, ◌*◌, ◌/◌, ◌%◌, ◌^◌, ◌<◌, IfErr, IfOk};
 ghost use Rattle.p3_util_kernels.specs.Reversal.{FitsRows};
-ghost use Rattle.p3_util_parts.specs.declared.parts.RowPairs.{RowPairs};
-ghost use Rattle.p3_util_parts.specs.declared.parts.reversal.ReversalPlan.TheVariants.{Patches, Whole};
-ghost use Rattle.p3_util_parts.specs.Plans.{IsReversalPlan, width_of};
+ghost use Rattle.p3_util_calls.specs.declared.parts.RowPairs.{RowPairs};
+ghost use Rattle.p3_util_calls.specs.declared.parts.reversal.ReversalPlan.TheVariants.{Patches, Whole};
+ghost use Rattle.p3_util_calls.specs.Plans.{IsCutAsAsked, IsReversalPlan, width_of};
+ghost use Rattle.p3_util_kernels.specs.declared.grid.TheConstants.{TILE};
 
 use crate::choice::LONG_BYTES;
-use p3_util_parts::parts::{Part, ReversalPlan, RowPairs};
+use crate::parts::{Part, ReversalPlan, RowPairs};
 
 /// The instances that a build has. Only the time depends on them.
 pub(crate) trait Instances {
@@ -60,6 +61,7 @@ pub(crate) fn plan_in_bytes<I: Instances>(
     ensures all { len * size / result.0 * result.0 ≡ len * size }
     ensures plan { IsReversalPlan (len * size / result.0) result.1 }
     ensures width { 0 < len * size → width_of result.1 * result.0 ≡ row_width * size }
+    ensures cut { IsCutAsAsked (len * size / result.0) ranges TILE result.1 }
 {
     let all = len * size;
     if all == 0 {

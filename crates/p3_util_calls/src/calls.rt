@@ -13,13 +13,13 @@ use crate::choice::{
     FAR_COLUMNS, LONG_BYTES, Limits, SHORT_COLUMN, STREAMED_ROWS, few_items_of, has_lines, is_far,
     is_streamed, row_blocks_of, side_of, strips_of,
 };
+use crate::lines::Lines;
 use p3_util_kernels::kernel::{
     Ahead, Blocked, Blocks, Columns, InCols, InRows, LARGE_MATRIX, Matrix, Order, Outlined,
     PutRegion, RowDigits, ShortColumns, Tiled, UNIT, put_as_block, reverse_short,
 };
 use p3_util_kernels::places::{Cells, Source};
 use p3_util_kernels::transpose::Region;
-use p3_util_registers::lines::Lines;
 
 /// The bytes of a cache line.
 const LINE: usize = 64;

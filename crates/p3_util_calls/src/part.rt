@@ -2,12 +2,12 @@
 
 ghost use Rattle.std.specs.Prelude.{◌≡◌, ◌*◌, ◌^◌, ◌<◌, length};
 ghost use Rattle.p3_util_kernels.specs.Region.{IsRegionTransposed, items_of};
-ghost use Rattle.p3_util_parts.specs.Interleaved.{region_of};
-ghost use Rattle.p3_util_parts.specs.Plans.{IsPartMade, IsReversalPlan};
+ghost use Rattle.p3_util_calls.specs.Interleaved.{region_of};
+ghost use Rattle.p3_util_calls.specs.Plans.{IsPartMade, IsReversalPlan};
 
 use crate::calls::{Output, reverse_rows, transpose_region};
 use p3_util_kernels::kernel::{Ahead, Tiled};
-use p3_util_parts::parts::{Part, ReversalPlan, TransposePlan};
+use crate::parts::{Part, ReversalPlan, TransposePlan};
 
 /// Puts the region of a part.
 #[inline(never)]

@@ -1,4 +1,4 @@
-//! What `p3_util_registers`, `p3_util_parts` and `p3_util_calls` use of the private kernels. It is for
+//! What `p3_util_registers` and `p3_util_calls` use of the private kernels. It is for
 //! these crates alone, which only the package of plain Rust needs. It may change with each commit.
 
 #[doc(hidden)]

@@ -1,5 +1,4 @@
 -- The modules of lemmas of this crate.
-pub mod LinesLemmas
 pub mod RegistersBlocks
 pub mod RegistersLemmas
 pub mod RegistersLines

@@ -8,13 +8,13 @@ use crate::kernels::choice::{
     FAR_COLUMNS, LONG_BYTES, Limits, SHORT_COLUMN, STREAMED_ROWS, few_items_of, has_lines, is_far,
     is_streamed, row_blocks_of, side_of, strips_of,
 };
+use crate::kernels::lines::Lines;
 use crate::kernels::kernel::{
     Ahead, Blocked, Blocks, Columns, InCols, InRows, LARGE_MATRIX, Matrix, Order, Outlined,
     PutRegion, RowDigits, ShortColumns, Tiled, UNIT, put_as_block, reverse_short,
 };
 use crate::kernels::places::{Cells, Source};
 use crate::kernels::transpose::Region;
-use crate::kernels::lines::Lines;
 
 /// The bytes of a cache line.
 const LINE: usize = 64;

@@ -1,5 +1,5 @@
 // rust/erase writes this file from crates/p3_util_kernels/src/kernel.rt. Make changes there.
-//! What `p3_util_registers`, `p3_util_parts` and `p3_util_calls` use of the private kernels. It is for
+//! What `p3_util_registers` and `p3_util_calls` use of the private kernels. It is for
 //! these crates alone, which only the package of plain Rust needs. It may change with each commit.
 
 pub(crate) use crate::kernels::bits::pow2;

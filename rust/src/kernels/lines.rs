@@ -1,4 +1,4 @@
-// rust/erase writes this file from crates/p3_util_registers/src/lines.rt. Make changes there.
+// rust/erase writes this file from crates/p3_util_calls/src/lines.rt. Make changes there.
 //! Puts a region by *lines*: by the cache lines of the output, from the first cell of a line to its last.
 //!
 //! The region is put panel after panel. A *panel* has 1024 columns, and is put by rows of lines, from top to bottom. A *row of

@@ -1,4 +1,4 @@
-// rust/erase writes this file from crates/p3_util_parts/src/parts.rt. Make changes there.
+// rust/erase writes this file from crates/p3_util_calls/src/parts.rt. Make changes there.
 //! Cuts a call into parts, each of which may run on a thread of its own. No thread is started here.
 //!
 //! - A *plan* says how a call is cut: a [`TransposePlan`] for a transpose, and a [`ReversalPlan`]
@@ -7,7 +7,7 @@
 //! - A reversal has one part for each patch of its [`RowPairs`], or the call is its one part.
 //! - A [`Cut`] cuts consecutive numbers, such as the columns of a matrix, into parts.
 //!
-//! The module `laws`, which only the Rattle sources have, states what is proved about the parts:
+//! The crate's module `laws`, which only the Rattle sources have, states what is proved about the parts:
 //! at which places the steps of each part are, that two parts have no place in common, and that all
 //! parts together have the effect of the call, however their steps are interleaved.
 

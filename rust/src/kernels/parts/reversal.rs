@@ -1,4 +1,4 @@
-// rust/erase writes this file from crates/p3_util_parts/src/parts/reversal.rt. Make changes there.
+// rust/erase writes this file from crates/p3_util_calls/src/parts/reversal.rt. Make changes there.
 //! The parts that a reversal is cut into.
 
 use crate::kernels::parts::RowPairs;

@@ -1,4 +1,4 @@
-// rust/erase writes this file from crates/p3_util_parts/src/parts/transpose.rt. Make changes there.
+// rust/erase writes this file from crates/p3_util_calls/src/parts/transpose.rt. Make changes there.
 //! The regions that the transpose of a matrix is cut into.
 
 use crate::kernels::parts::Cut;
@@ -65,8 +65,8 @@ impl TransposePlan {
         region.rows() * region.cols()
     }
 
-    /// How many cells each region fills if the columns are cut. They are next to each other, and right after those of the region
-    /// before it. The last region may fill fewer.
+    /// The number of items of the first region, or 0 if there is none. If the columns are cut, each region fills so many cells,
+    /// and the last one may fill fewer. They are next to each other, and right after those of the region before it.
     pub(crate) fn cells_of_region(self) -> usize {
         if self.cut.count() == 0 {
             0

@@ -1,0 +1,35 @@
+-- A patch is a region of the grid of its rows.
+use Rattle.std.proofs.Common.{◌≡◌, ℕ, ◌+◌, ◌-◌, ◌/◌, ◌%◌, ◌^◌, ◌<◌, ◌≤◌, refl, arith}
+use Rattle.p3_util_kernels.specs.declared.transpose.regions.Region.{Region}
+use Rattle.p3_util_calls.specs.Patches.{IsPatch}
+use Rattle.p3_util_kernels.specs.Grid.{square_at}
+use Rattle.p3_util_kernels.specs.Region.{rows_of}
+use Rattle.p3_util_calls.proofs.PatchesLemmas.{patch-above}
+use Rattle.p3_util_kernels.proofs.GridLemmas.Rows.{HoldsGrid-rows}
+use Rattle.p3_util_calls.proofs.parts.RowPairs.exchange_patch.Goals as goal
+
+-- the grid of a patch is one of those of the rows
+below : (digits part_len number middle : ℕ) (region : Region) → IsPatch digits part_len number middle region → middle < 2 ^ (digits - digits / 2 - digits / 2)
+below digits part_len number middle region patch = let rest : digits - digits / 2 - digits / 2 ≡ digits % 2 = omega arith in rw rest patch.middle_below
+
+-- a region on the diagonal is a square
+square : (region : Region) → region.row_start ≤ region.row_end → region.row_start ≡ region.col_start → region.row_end ≡ region.col_end
+    → square_at region.row_start (rows_of region) ≡ region
+square region order start end = let size : region.row_start + rows_of region ≡ region.row_end = omega arith in rw (size, end, start) refl
+
+pub exchange_quadrants-requires-clause-ready : goal.exchange_quadrants-requires-clause-ready
+exchange_quadrants-requires-clause-ready g c =
+    let digits = c.args.self.rows.digits in
+    rw c.grid-grid.ensures
+    (HoldsGrid-rows (digits / 2) (digits - digits / 2) c.args.self.rows.width c.patch-middle.result.0 (omega arith) (below _ _ _ _ _ c.patch-middle.ensures)
+    digits _ (omega arith) c.requires.ready)
+
+pub exchange_region-requires-clause-ready : goal.exchange_region-requires-clause-ready
+exchange_region-requires-clause-ready g c =
+    let digits = c.args.self.rows.digits in
+    rw c.grid-grid.ensures
+    (HoldsGrid-rows (digits / 2) (digits - digits / 2) c.args.self.rows.width c.patch-middle.result.0 (omega arith) (below _ _ _ _ _ c.patch-middle.ensures)
+    digits _ (omega arith) c.requires.ready)
+
+pub exchange_region-requires-clause-above : goal.exchange_region-requires-clause-above
+exchange_region-requires-clause-above g c = patch-above _ _ _ _ _ c.args.self.cut.some_part_len c.patch-middle.ensures c.if-region.false

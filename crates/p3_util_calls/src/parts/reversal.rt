@@ -1,0 +1,93 @@
+//! The parts that a reversal is cut into.
+
+ghost use Rattle.p3_util_calls.specs.Patches.{IsPatchExchanged, patches_of};
+ghost use Rattle.p3_util_calls.specs.declared.parts.RowPairs.{RowPairs};
+ghost use Rattle.p3_util_calls.specs.declared.parts.reversal.ReversalPlan.TheVariants.{Patches, Whole};
+ghost use Rattle.p3_util_kernels.specs.Crossing.{HoldsRows};
+ghost use Rattle.p3_util_calls.specs.Plans.{IsCutAsAsked, IsReversalPlan, parts_of, width_of};
+ghost use Rattle.p3_util_kernels.specs.Reversal.{FitsRows};
+ghost use Rattle.p3_util_kernels.specs.declared.grid.TheConstants.{TILE};
+ghost use Rattle.std.specs.Prelude.{◌≡◌, ℕ, IfErr, IfOk};
+
+use crate::parts::RowPairs;
+use crate::parts::numbers::{Part, Plan};
+use p3_util_kernels::kernel::Tiled;
+
+/// How the reversal of rows is cut.
+#[derive(Clone, Copy)]
+pub(crate) enum ReversalPlan {
+    /// The number of items, and that of the items of each row. The call is the only part. If there
+    /// are no items, there is no part.
+    Whole(usize, usize),
+    /// Each patch of these pairs is a part.
+    Patches(RowPairs),
+}
+
+impl ReversalPlan {
+    /// The plan for a list of `len` items, `row_width` in each row. With a number of parts, and if
+    /// there are items, it has the patches of [`RowPairs::new`].
+    pub(crate) fn new(len: usize, row_width: usize, parts: Option<usize>) -> ReversalPlan
+        requires { FitsRows len row_width }
+        ensures width { width_of result ≡ row_width }
+        ensures plan { IsReversalPlan len result }
+        ensures cut { IsCutAsAsked len parts TILE result }
+    {
+        match parts {
+            Some(parts) if len > 0 => {
+                ReversalPlan::Patches(RowPairs::new(len, row_width, parts))
+            }
+            _ => ReversalPlan::Whole(len, row_width),
+        }
+    }
+}
+
+impl Plan for ReversalPlan {
+    ghost parts = { parts_of };
+
+    /// The number of parts.
+    fn count(self) -> usize {
+        match self {
+            ReversalPlan::Whole(len, _) => len.min(1),
+            ReversalPlan::Patches(pairs) => pairs.count(),
+        }
+    }
+}
+
+impl Plan for RowPairs {
+    ghost parts = { λ pairs. patches_of pairs.rows.digits pairs.cut.part_len };
+
+    /// The number of patches that are on the diagonal of their grid or above it.
+    fn count(self) -> usize {
+        self.patches()
+    }
+}
+
+impl Part<ReversalPlan> {
+    /// The part as a patch, if the reversal is cut. Otherwise the part is the call, and the error is the number of items of
+    /// each row.
+    pub(crate) fn patch(self) -> Result<Part<RowPairs>, usize>
+        ensures cut { IfOk result (λ patch. (self.plan ≡ Patches patch.plan) × (patch.number ≡ self.number)) }
+        ensures whole { IfErr result (λ width. (len : ℕ) × (self.plan ≡ Whole len width)) }
+    {
+        let Part { plan, number } = self;
+        match plan {
+            ReversalPlan::Whole(_, width) => Err(width),
+            ReversalPlan::Patches(pairs) => Ok(Part {
+                plan: pairs,
+                number,
+            }),
+        }
+    }
+}
+
+impl Part<RowPairs> {
+    /// Exchanges the two rows of each pair in this patch.
+    pub(crate) fn exchange<M: Tiled>(self, m: M) -> M
+        requires { HoldsRows self.plan.rows.width self.plan.rows.digits (M.items m) }
+        ensures { IsPatchExchanged self.plan.rows.digits self.plan.rows.width self.plan.cut.part_len self.number
+            (M.items m) (M.items result) (λ n. M.same_holder n m result) }
+    {
+        let Part { plan, number } = self;
+        plan.exchange_patch(m, number)
+    }
+}

@@ -1,5 +1,0 @@
-pub mod Interleaved
-pub mod Parts
-pub mod Patches
-pub mod PlacesOfParts
-pub mod Plans
