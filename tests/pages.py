@@ -34,11 +34,6 @@ sources = {path: text for path, text in sources.items() if not re.search(r"/test
 
 
 @functools.cache
-def functions_of(path):
-    return list(functions(read_source(path)))
-
-
-@functools.cache
 def clauses():
     """The names of the clauses of each function, by its own name, and by its path from its module, type or trait. The path of a
     variant or of another item of a type or trait has none."""
@@ -145,7 +140,7 @@ def public_functions():
     """The public functions of the libraries and the public methods of their types: the path, the type or None, and the
     function. Those of laws.rt say what holds, and do nothing."""
     for path in (path for path in sources if re.match(r"crates/p3_util(_kernels)?/", path) and not path.endswith("/laws.rt")):
-        for outer, found in functions_of(path):
+        for outer, found in functions(read_source(path)):
             if found.seen_by == "pub" and (not outer or outer.kind == "impl" and " for " not in outer.head):
                 yield path, outer and outer.name(), found
 
