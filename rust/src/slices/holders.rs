@@ -159,12 +159,15 @@ impl<F, D: Register<F>> Places for SliceItems<'_, F, D> {
         unsafe {
             let (x, y) = (self.first.wrapping_add(i), self.first.wrapping_add(j));
             if const { size_of::<F>() < 48 || cfg!(debug_assertions) && size_of::<F>() <= 64 } {
+                // Both fit in registers.
                 let (of_x, of_y) = (ptr::read(x), ptr::read(y));
                 write_item(y, of_x);
                 write_item(x, of_y);
             } else if MOVES_BYTES && cfg!(not(debug_assertions)) {
+                // Longer items go through registers part by part.
                 move_bytes::<true>(x.cast(), y.cast(), 0, size_of::<F>());
             } else if cfg!(debug_assertions) {
+                // With debug assertions, items are moved as their type says.
                 ptr::swap(x, y);
             } else if x != y {
                 // This needs no room for an item on the stack, unlike `ptr::swap`.
@@ -295,6 +298,12 @@ impl<T: Copy, D: Register<T>> SquaresOfCells<T, D> for SliceItems<'_, T, D> {
     }
 }
 
+/// Whether half a register `D` has the bytes of a run, so that a step reads or writes all of the run and nothing else. The half
+/// `()` has none.
+const fn fills_a_run<T, D: Register<T>>() -> bool {
+    size_of::<D::Half>() == D::SIDE * size_of::<T>() || size_of::<D::Half>() == 0
+}
+
 /// Runs of the items, which fill half a register `D`. Here a run `may` be read and written if all of it is among the places
 /// of the step that is made, which are within the list by the precondition of the step's method. A holder of the type
 /// [`PastCaches`] `may_stream` it if it also begins at a multiple of 16 bytes, and a fence follows before the call or the part
@@ -304,8 +313,10 @@ impl<T: Copy, D: Register<T>> SquaresOfCells<T, D> for SliceItems<'_, T, D> {
 impl<T, E, D: Register<T>> Loads<T, D> for SliceItems<'_, T, E> {
     #[inline(always)]
     fn load(&self, place: usize) -> D::Half {
-        debug_assert!(place <= self.len && size_of::<D::Half>() / size_of::<T>() <= self.len - place);
-        // SAFETY: the run `may` be read, by the `requires` of `Loads::load`.
+        const { assert!(fills_a_run::<T, D>()) }
+        debug_assert!(place <= self.len && D::SIDE <= self.len - place);
+        // SAFETY: the run `may` be read, by the `requires` of `Loads::load`. Its bytes may be unwritten, which a half may be, too:
+        // it is a `MaybeUninit`, or a register, which has only one, or `()`.
         unsafe { (*self.first.wrapping_add(place).cast::<Unaligned<D::Half>>()).0 }
     }
 }
@@ -313,8 +324,9 @@ impl<T, E, D: Register<T>> Loads<T, D> for SliceItems<'_, T, E> {
 impl<T, E, D: Register<T>> Runs<T, D> for SliceItems<'_, T, E> {
     #[inline(always)]
     fn store(&mut self, place: usize, run: D::Half) {
-        debug_assert!(place <= self.len && size_of::<D::Half>() / size_of::<T>() <= self.len - place);
-        // SAFETY: the run `may` be written, by the `requires` of `Runs::store`.
+        const { assert!(fills_a_run::<T, D>()) }
+        debug_assert!(place <= self.len && D::SIDE <= self.len - place);
+        // SAFETY: the run `may` be written, by the `requires` of `Runs::store`, and the half has the bytes of items.
         unsafe { *self.first.wrapping_add(place).cast() = Unaligned(run) }
     }
 }
@@ -387,8 +399,8 @@ impl<T, D: Register<T>> Runs<T, D> for PastCaches<'_, T, D> {
     #[inline(always)]
     fn stream(&mut self, place: usize, run: D::Half) {
         let to = self.0.first.wrapping_add(place);
-        debug_assert!(place <= self.0.len && 16 / size_of::<T>() <= self.0.len - place && size_of::<D::Half>() == 16);
-        debug_assert!(to.addr() % 16 == 0);
+        debug_assert!(place <= self.0.len && D::SIDE <= self.0.len - place);
+        debug_assert!(size_of::<D::Half>() == 16 && to.addr() % 16 == 0);
         // SAFETY: a run is a register here. The holder `may_stream` it, by the `requires` of `Runs::stream`: the method
         // `may_stream_lines` tests that.
         unsafe {
@@ -449,8 +461,9 @@ impl<T: Copy> Ahead for SliceSource<'_, T> {
 impl<T, D: Register<T>> Loads<T, D> for SliceSource<'_, T> {
     #[inline(always)]
     fn load(&self, place: usize) -> D::Half {
-        debug_assert!(place <= self.items.len() && size_of::<D::Half>() / size_of::<T>() <= self.items.len() - place);
-        // SAFETY: the run `may` be read, by the `requires` of `Loads::load`.
+        const { assert!(fills_a_run::<T, D>()) }
+        debug_assert!(place <= self.items.len() && D::SIDE <= self.items.len() - place);
+        // SAFETY: as in that of `SliceItems`.
         unsafe { (*self.items.as_ptr().wrapping_add(place).cast::<Unaligned<D::Half>>()).0 }
     }
 }
