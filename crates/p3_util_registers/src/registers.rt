@@ -22,9 +22,8 @@
 //! [`butterfly_4x4`](p3_util_kernels::transpose::butterfly_4x4) exchanges one bit of the row number with the same
 //! bit of the column number: after two stages of either, the two numbers are exchanged.
 //!
-//! [`exchange_tiles`] and [`turn_tile`] leave the list that the methods of these names in
-//! [`places`](p3_util_kernels::places) leave, and [`put_by_squares`] leaves that of `Blocked::put_block`. A holder's own methods
-//! may call them.
+//! [`exchange_tiles`] and [`turn_tile`] leave the list that the methods of these names of `Tiled` leave, and
+//! [`put_by_squares`] leaves that of `Blocked::put_block`. A holder's own methods may call them.
 
 ghost use Rattle.std.specs.Prelude.{◌≡◌, ℕ, ◌+◌, ◌-◌, ◌*◌, ◌/◌, ◌%◌, ◌^◌, ◌<◌, ◌≤◌, ◌⊎◌, List, [], ◌∷◌, ◌++◌, length, refl, slice_get, slice_index};
 ghost use Rattle.std.proofs.Common.{arith, length-append};
@@ -72,54 +71,56 @@ pub(crate) trait Register<T>: Copy {
     ghost full: { (a : Self) → length (items a) ≡ 2 * SIDE };
 }
 
-/// A list in which a run of items, half a register, can be read or written at once.
+/// A list in which a run of items, half a register, can be read at once.
 ///
-/// A holder also says which runs may be touched, by `may` and `may_stream`. A function that is generic
-/// over this trait is proved for whatever these say, so it touches no run but those for which its own
-/// `requires` asks.
-pub(crate) trait Runs<T, D: Register<T>> {
+/// A holder also says which runs may be read, by `may`. A function that is generic over this trait is
+/// proved for whatever it says, so it reads no run but those for which its own `requires` asks.
+pub(crate) trait Loads<T, D: Register<T>> {
     ghost items: { Self → List T };
 
     ghost Reach: { Type 0 };
 
-    /// What `may` and `may_stream` depend on, such as the length of the list. No store changes it.
+    /// What `may` and `may_stream` depend on, such as the length of the list.
     ghost reach: { Self → Reach };
 
-    /// The run from this place on may be read and written.
+    /// The run from this place on may be read. If the holder implements [`Runs`], it may also be written.
     ghost may: { Reach → ℕ → Type 0 };
 
-    /// It may also be streamed, which may need an aligned place and a fence later on.
+    /// Such a holder may also stream it, which may need an aligned place and a fence later on.
     ghost may_stream: { Reach → ℕ → Type 0 };
-
-    /// `same_holder n a b` says that b is the holder a after runs of n items together were written.
-    ghost same_holder: { ℕ → Self → Self → Type 0 };
 
     /// Reads the run from `place` on.
     fn load(&self, place: usize) -> D::Half
         requires { may (reach self.now) place }
         ensures { (t : ℕ) → t < D.SIDE → slice_get (D.half_items result) t ≡ slice_get (items self.now) (place + t) };
 
+    ghost len_fits: { (a : Self) → length (items a) < 2 ^ 63 };
+}
+
+/// A list in which such a run can also be written. No store changes what `may` and `may_stream` say.
+pub(crate) trait Runs<T, D: Register<T>>: Loads<T, D> {
+    /// `same_holder n a b` says that b is the holder a after runs of n items together were written.
+    ghost same_holder: { ℕ → Self → Self → Type 0 };
+
     /// Writes the run from `place` on.
     fn store(&mut self, place: usize, run: D::Half)
-        requires { may (reach self.old) place }
-        ensures stored { IsRunStored D.SIDE place (D.half_items run) (items self.old) (items self.new) }
-        ensures reach { reach self.new ≡ reach self.old }
+        requires { Self.may (Self.reach self.old) place }
+        ensures stored { IsRunStored D.SIDE place (D.half_items run) (Self.items self.old) (Self.items self.new) }
+        ensures reach { Self.reach self.new ≡ Self.reach self.old }
         ensures holder { same_holder D.SIDE self.old self.new };
 
     /// Does the same as `store`. It is for a run that the kernel does not use again, so a holder may store it past the caches.
     /// No clause says that the run is not used again: that would take longer, and leave the same items.
     fn stream(&mut self, place: usize, run: D::Half)
-        requires { may_stream (reach self.old) place }
-        ensures stored { IsRunStored D.SIDE place (D.half_items run) (items self.old) (items self.new) }
-        ensures reach { reach self.new ≡ reach self.old }
+        requires { Self.may_stream (Self.reach self.old) place }
+        ensures stored { IsRunStored D.SIDE place (D.half_items run) (Self.items self.old) (Self.items self.new) }
+        ensures reach { Self.reach self.new ≡ Self.reach self.old }
         ensures holder { same_holder D.SIDE self.old self.new }
     {
         self.store(place, run);
     }
 
-    ghost may_both: { (r : Reach) (p : ℕ) → may_stream r p → may r p };
-
-    ghost len_fits: { (a : Self) → length (items a) < 2 ^ 63 };
+    ghost may_both: { (r : Self.Loads.Reach) (p : ℕ) → Self.Loads.may_stream r p → Self.Loads.may r p };
 
     ghost same_holder_refl: { (a : Self) → same_holder 0 a a };
 
@@ -152,7 +153,7 @@ fn next_stage<T, D: Register<T>>(four: Four<D>) -> Four<D>
 
 /// Reads two runs and interleaves them.
 #[inline(always)]
-fn load_two<T, D: Register<T>, S: Runs<T, D>>(list: &S, first: usize, second: usize) -> D
+fn load_two<T, D: Register<T>, S: Loads<T, D>>(list: &S, first: usize, second: usize) -> D
     requires first { S.may (S.reach list.now) first }
     requires second { S.may (S.reach list.now) second }
     ensures { AreInterleaved D.SIDE first second (S.items list.now) (S.items list.now) (D.items result) }
@@ -162,7 +163,7 @@ fn load_two<T, D: Register<T>, S: Runs<T, D>>(list: &S, first: usize, second: us
 
 /// Reads 8 runs. Each register has two of them, interleaved: the first stage is made as they are read.
 #[inline(always)]
-fn load<T, D: Register<T>, S: Runs<T, D>>(list: &S, from: [usize; 8]) -> Four<D>
+fn load<T, D: Register<T>, S: Loads<T, D>>(list: &S, from: [usize; 8]) -> Four<D>
     requires { AreReached 8 from (S.may (S.reach list.now)) }
     ensures { AreLoaded D.SIDE from (S.items list.now) (items_of_four D.items result) }
 {
@@ -197,7 +198,7 @@ fn in_order(places: [usize; 8], side: usize) -> [usize; 8]
 /// Reads squares, which are 8 rows together, and transposes them. `places` has the first place of each
 /// row, one square after another.
 #[inline(always)]
-fn load_columns<T, D: Register<T>, S: Runs<T, D>>(list: &S, places: [usize; 8]) -> Four<D>
+fn load_columns<T, D: Register<T>, S: Loads<T, D>>(list: &S, places: [usize; 8]) -> Four<D>
     requires some_side { IsSide D.SIDE }
     requires reached { AreReached 8 places (S.may (S.reach list.now)) }
     ensures { AreColumns D.SIDE places (S.items list.now) (items_of_four D.items result) }
@@ -509,7 +510,7 @@ fn starts(first: usize, stride: usize, count: usize) -> [usize; 8]
 /// Puts `D::SIDE` columns of a block, from column `col` on, which are squares one above another. If
 /// the block has 4 rows, the registers have each of its squares twice, and one of both is put.
 #[inline(always)]
-fn put_squares<T, D: Register<T>, S: Runs<T, D>, M: Runs<T, D>>(
+fn put_squares<T, D: Register<T>, S: Loads<T, D>, M: Runs<T, D>>(
     cells: &mut M,
     source: &S,
     block: Block,
@@ -586,7 +587,7 @@ fn store_columns<T, D: Register<T>, M: Runs<T, D>>(
 /// put. So two neighbouring runs of a row are read, and two of a column written, one right after the
 /// other. On aarch64 that is one instruction for both (`ldp`, `stp`).
 #[inline(always)]
-fn put_twice<T, D: Register<T>, S: Runs<T, D>, M: Runs<T, D>>(
+fn put_twice<T, D: Register<T>, S: Loads<T, D>, M: Runs<T, D>>(
     cells: &mut M,
     source: &S,
     block: Block,
@@ -617,7 +618,7 @@ fn put_twice<T, D: Register<T>, S: Runs<T, D>, M: Runs<T, D>>(
 
 /// Does what `Blocked::put_block` does, by squares of `D::SIDE` rows.
 #[inline(always)]
-pub(crate) fn put_by_squares<T, D: Register<T>, S: Runs<T, D>, M: Runs<T, D>>(
+pub(crate) fn put_by_squares<T, D: Register<T>, S: Loads<T, D>, M: Runs<T, D>>(
     cells: &mut M,
     source: &S,
     block: Block,

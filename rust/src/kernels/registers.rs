@@ -23,9 +23,8 @@
 //! [`butterfly_4x4`](crate::kernels::transpose::butterfly_4x4) exchanges one bit of the row number with the same
 //! bit of the column number: after two stages of either, the two numbers are exchanged.
 //!
-//! [`exchange_tiles`] and [`turn_tile`] leave the list that the methods of these names in
-//! [`places`](crate::kernels::places) leave, and [`put_by_squares`] leaves that of `Blocked::put_block`. A holder's own methods
-//! may call them.
+//! [`exchange_tiles`] and [`turn_tile`] leave the list that the methods of these names of `Tiled` leave, and
+//! [`put_by_squares`] leaves that of `Blocked::put_block`. A holder's own methods may call them.
 
 pub(crate) mod blocks;
 pub(crate) mod line_blocks;
@@ -54,15 +53,17 @@ pub(crate) trait Register<T>: Copy {
     fn halves(self) -> (Self::Half, Self::Half);
 }
 
-/// A list in which a run of items, half a register, can be read or written at once.
+/// A list in which a run of items, half a register, can be read at once.
 ///
-/// A holder also says which runs may be touched, by `may` and `may_stream`. A function that is generic
-/// over this trait is proved for whatever these say, so it touches no run but those for which its own
-/// `requires` asks.
-pub(crate) trait Runs<T, D: Register<T>> {
+/// A holder also says which runs may be read, by `may`. A function that is generic over this trait is
+/// proved for whatever it says, so it reads no run but those for which its own `requires` asks.
+pub(crate) trait Loads<T, D: Register<T>> {
     /// Reads the run from `place` on.
     fn load(&self, place: usize) -> D::Half;
+}
 
+/// A list in which such a run can also be written. No store changes what `may` and `may_stream` say.
+pub(crate) trait Runs<T, D: Register<T>>: Loads<T, D> {
     /// Writes the run from `place` on.
     fn store(&mut self, place: usize, run: D::Half);
 
@@ -96,13 +97,13 @@ fn next_stage<T, D: Register<T>>(four: Four<D>) -> Four<D> {
 
 /// Reads two runs and interleaves them.
 #[inline(always)]
-fn load_two<T, D: Register<T>, S: Runs<T, D>>(list: &S, first: usize, second: usize) -> D {
+fn load_two<T, D: Register<T>, S: Loads<T, D>>(list: &S, first: usize, second: usize) -> D {
     D::from_half(list.load(first)).low(D::from_half(list.load(second)))
 }
 
 /// Reads 8 runs. Each register has two of them, interleaved: the first stage is made as they are read.
 #[inline(always)]
-fn load<T, D: Register<T>, S: Runs<T, D>>(list: &S, from: [usize; 8]) -> Four<D> {
+fn load<T, D: Register<T>, S: Loads<T, D>>(list: &S, from: [usize; 8]) -> Four<D> {
     Four {
         a: load_two(list, from[0], from[4]),
         b: load_two(list, from[1], from[5]),
@@ -131,7 +132,7 @@ fn in_order(places: [usize; 8], side: usize) -> [usize; 8] {
 /// Reads squares, which are 8 rows together, and transposes them. `places` has the first place of each
 /// row, one square after another.
 #[inline(always)]
-fn load_columns<T, D: Register<T>, S: Runs<T, D>>(list: &S, places: [usize; 8]) -> Four<D> {
+fn load_columns<T, D: Register<T>, S: Loads<T, D>>(list: &S, places: [usize; 8]) -> Four<D> {
     let side = D::SIDE;
     let one = load(list, in_order(places, side));
     if side == 2 {
@@ -347,7 +348,7 @@ fn starts(first: usize, stride: usize, count: usize) -> [usize; 8] {
 /// Puts `D::SIDE` columns of a block, from column `col` on, which are squares one above another. If
 /// the block has 4 rows, the registers have each of its squares twice, and one of both is put.
 #[inline(always)]
-fn put_squares<T, D: Register<T>, S: Runs<T, D>, M: Runs<T, D>>(
+fn put_squares<T, D: Register<T>, S: Loads<T, D>, M: Runs<T, D>>(
     cells: &mut M,
     source: &S,
     block: Block,
@@ -402,7 +403,7 @@ fn store_columns<T, D: Register<T>, M: Runs<T, D>>(
 /// put. So two neighbouring runs of a row are read, and two of a column written, one right after the
 /// other. On aarch64 that is one instruction for both (`ldp`, `stp`).
 #[inline(always)]
-fn put_twice<T, D: Register<T>, S: Runs<T, D>, M: Runs<T, D>>(
+fn put_twice<T, D: Register<T>, S: Loads<T, D>, M: Runs<T, D>>(
     cells: &mut M,
     source: &S,
     block: Block,
@@ -420,7 +421,7 @@ fn put_twice<T, D: Register<T>, S: Runs<T, D>, M: Runs<T, D>>(
 
 /// Does what `Blocked::put_block` does, by squares of `D::SIDE` rows.
 #[inline(always)]
-pub(crate) fn put_by_squares<T, D: Register<T>, S: Runs<T, D>, M: Runs<T, D>>(
+pub(crate) fn put_by_squares<T, D: Register<T>, S: Loads<T, D>, M: Runs<T, D>>(
     cells: &mut M,
     source: &S,
     block: Block,

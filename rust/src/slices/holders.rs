@@ -6,9 +6,8 @@
 //! Then parts of an item and fences would take several times as long, and so would `add`, which is a call there.
 
 use core::marker::PhantomData;
-use core::mem::MaybeUninit;
 use core::ptr;
-use core::slice::from_raw_parts;
+use core::slice::{from_raw_parts, from_ref};
 use core::sync::atomic::{Ordering, compiler_fence};
 
 pub(super) use self::SliceItems as WholeList;
@@ -25,7 +24,7 @@ use crate::kernels::registers::blocks::{
     LinesOfCells, RunsOfCells, SquaresOfCells, put_in_lines_if_runs, put_in_squares_if_runs,
 };
 use crate::kernels::registers::tiles::{self, RunsOfPlaces};
-use crate::kernels::registers::{Register, Runs, Single, Two};
+use crate::kernels::registers::{Loads, Register, Runs, Single, Two};
 use crate::kernels::transpose::{Matrix, PutRegion, Region};
 
 mod bytes;
@@ -70,12 +69,6 @@ impl<'a, T, D> SliceItems<'a, T, D> {
     fn of(first: *mut T, len: usize) -> Self {
         let slice = PhantomData;
         SliceItems { first, len, slice }
-    }
-
-    /// The items of a source, which are only read: proved code has a shared reference to this holder.
-    #[inline(always)]
-    fn of_source(items: &'a [T]) -> Self {
-        SliceItems::of(items.as_ptr().cast_mut(), items.len())
     }
 
     #[inline(always)]
@@ -166,12 +159,15 @@ impl<F, D: Register<F>> Places for SliceItems<'_, F, D> {
         unsafe {
             let (x, y) = (self.first.wrapping_add(i), self.first.wrapping_add(j));
             if const { size_of::<F>() < 48 || cfg!(debug_assertions) && size_of::<F>() <= 64 } {
+                // Both fit in registers.
                 let (of_x, of_y) = (ptr::read(x), ptr::read(y));
                 write_item(y, of_x);
                 write_item(x, of_y);
             } else if MOVES_BYTES && cfg!(not(debug_assertions)) {
+                // Longer items go through registers part by part.
                 move_bytes::<true>(x.cast(), y.cast(), 0, size_of::<F>());
             } else if cfg!(debug_assertions) {
+                // With debug assertions, items are moved as their type says.
                 ptr::swap(x, y);
             } else if x != y {
                 // This needs no room for an item on the stack, unlike `ptr::swap`.
@@ -274,7 +270,7 @@ impl<T: Copy, D: Register<T>> Blocked for SliceItems<'_, T, D> {
     #[cfg_attr(debug_assertions, inline(never))]
     #[cfg_attr(not(debug_assertions), inline(always))]
     fn put_block<R: Ahead<Item = T>>(&mut self, source: &R, block: Block) {
-        let runs = source.as_slice().map(SliceItems::<T, D>::of_source);
+        let runs = source.as_slice().map(SliceSource::new);
         put_in_squares_if_runs(self, runs.as_ref(), source, block);
     }
 }
@@ -302,24 +298,35 @@ impl<T: Copy, D: Register<T>> SquaresOfCells<T, D> for SliceItems<'_, T, D> {
     }
 }
 
+/// Whether half a register `D` has the bytes of a run, so that a step reads or writes all of the run and nothing else. The half
+/// `()` has none.
+const fn fills_a_run<T, D: Register<T>>() -> bool {
+    size_of::<D::Half>() == D::SIDE * size_of::<T>() || size_of::<D::Half>() == 0
+}
+
 /// Runs of the items, which fill half a register `D`. Here a run `may` be read and written if all of it is among the places
 /// of the step that is made, which are within the list by the precondition of the step's method. A holder of the type
 /// [`PastCaches`] `may_stream` it if it also begins at a multiple of 16 bytes, and a fence follows before the call or the part
-/// ends. A run of a source, which is only read, `may` be anywhere in the list. The functions of `kernels/registers.rs` are
-/// proved to touch no other run, whatever `may` and `may_stream` are. So that method may call them if it names no place but
-/// those of its step, and no run that ends after the source.
-impl<T, E, D: Register<T>> Runs<T, D> for SliceItems<'_, T, E> {
+/// ends. A run of a source `may` be anywhere in the list. The functions of `kernels/registers.rs` are proved to touch no other
+/// run, whatever `may` and `may_stream` are. So that method may call them if it names no place but those of its step, and no
+/// run that ends after the source.
+impl<T, E, D: Register<T>> Loads<T, D> for SliceItems<'_, T, E> {
     #[inline(always)]
     fn load(&self, place: usize) -> D::Half {
-        debug_assert!(place <= self.len && size_of::<D::Half>() / size_of::<T>() <= self.len - place);
-        // SAFETY: the run `may` be read, by the `requires` of `Runs::load`.
+        const { assert!(fills_a_run::<T, D>()) }
+        debug_assert!(place <= self.len && D::SIDE <= self.len - place);
+        // SAFETY: the run `may` be read, by the `requires` of `Loads::load`. Its bytes may be unwritten, which a half may be, too:
+        // it is a `MaybeUninit`, or a register, which has only one, or `()`.
         unsafe { (*self.first.wrapping_add(place).cast::<Unaligned<D::Half>>()).0 }
     }
+}
 
+impl<T, E, D: Register<T>> Runs<T, D> for SliceItems<'_, T, E> {
     #[inline(always)]
     fn store(&mut self, place: usize, run: D::Half) {
-        debug_assert!(place <= self.len && size_of::<D::Half>() / size_of::<T>() <= self.len - place);
-        // SAFETY: the run `may` be written, by the `requires` of `Runs::store`.
+        const { assert!(fills_a_run::<T, D>()) }
+        debug_assert!(place <= self.len && D::SIDE <= self.len - place);
+        // SAFETY: the run `may` be written, by the `requires` of `Runs::store`, and the half has the bytes of items.
         unsafe { *self.first.wrapping_add(place).cast() = Unaligned(run) }
     }
 }
@@ -343,11 +350,10 @@ impl<T: Copy, D: Register<T>> Cells for PastCaches<'_, T, D> {
         if const { size_of::<T>() < 32 || size_of::<T>() % 16 != 0 } || self.0.first.addr() % 16 != 0 {
             return self.0.put(i, v);
         }
-        let mut v = MaybeUninit::new(v);
-        let item = Vectors::of(v.as_mut_ptr().cast(), parts);
+        let item = SliceSource::new(from_ref(&v)).in_bytes::<16>();
         let mut cells = PastCaches(Vectors::of(self.0.first.cast(), self.0.len * parts));
         for part in 0..parts {
-            let run = Runs::<_, Two<Vector>>::load(&item, part);
+            let run = Loads::<_, Two<Vector>>::load(&item, part);
             Runs::<_, Two<Vector>>::stream(&mut cells, i * parts + part, run);
         }
     }
@@ -357,7 +363,7 @@ impl<T: Copy, D: Register<T>> Blocked for PastCaches<'_, T, D> {
     #[cfg_attr(debug_assertions, inline(never))]
     #[cfg_attr(not(debug_assertions), inline(always))]
     fn put_block<R: Ahead<Item = T>>(&mut self, source: &R, block: Block) {
-        let runs = source.as_slice().map(SliceItems::<T, D>::of_source);
+        let runs = source.as_slice().map(SliceSource::new);
         put_in_lines_if_runs(self, runs.as_ref(), source, block);
     }
 }
@@ -374,12 +380,14 @@ impl<T: Copy, D: Register<T>> LinesOfCells<T, D> for PastCaches<'_, T, D> {
     }
 }
 
-impl<T, D: Register<T>> Runs<T, D> for PastCaches<'_, T, D> {
+impl<T, D: Register<T>> Loads<T, D> for PastCaches<'_, T, D> {
     #[inline(always)]
     fn load(&self, place: usize) -> D::Half {
-        Runs::<T, D>::load(&self.0, place)
+        Loads::<T, D>::load(&self.0, place)
     }
+}
 
+impl<T, D: Register<T>> Runs<T, D> for PastCaches<'_, T, D> {
     #[inline(always)]
     fn store(&mut self, place: usize, run: D::Half) {
         Runs::<T, D>::store(&mut self.0, place, run);
@@ -391,8 +399,8 @@ impl<T, D: Register<T>> Runs<T, D> for PastCaches<'_, T, D> {
     #[inline(always)]
     fn stream(&mut self, place: usize, run: D::Half) {
         let to = self.0.first.wrapping_add(place);
-        debug_assert!(place <= self.0.len && 16 / size_of::<T>() <= self.0.len - place && size_of::<D::Half>() == 16);
-        debug_assert!(to.addr() % 16 == 0);
+        debug_assert!(place <= self.0.len && D::SIDE <= self.0.len - place);
+        debug_assert!(size_of::<D::Half>() == 16 && to.addr() % 16 == 0);
         // SAFETY: a run is a register here. The holder `may_stream` it, by the `requires` of `Runs::stream`: the method
         // `may_stream_lines` tests that.
         unsafe {
@@ -447,5 +455,15 @@ impl<T: Copy> Ahead for SliceSource<'_, T> {
     #[inline(always)]
     fn expect(&self, i: usize) {
         cache::prefetch(self.items.as_ptr().wrapping_add(i).cast());
+    }
+}
+
+impl<T, D: Register<T>> Loads<T, D> for SliceSource<'_, T> {
+    #[inline(always)]
+    fn load(&self, place: usize) -> D::Half {
+        const { assert!(fills_a_run::<T, D>()) }
+        debug_assert!(place <= self.items.len() && D::SIDE <= self.items.len() - place);
+        // SAFETY: as in that of `SliceItems`.
+        unsafe { (*self.items.as_ptr().wrapping_add(place).cast::<Unaligned<D::Half>>()).0 }
     }
 }

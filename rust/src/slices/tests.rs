@@ -24,7 +24,7 @@ use crate::kernels::places::{Cells, Places, Source};
 #[cfg(not(feature = "checked"))]
 use crate::kernels::registers::blocks::LinesOfCells;
 #[cfg(not(feature = "checked"))]
-use crate::kernels::registers::{Pair, Paired, Register, Runs, Single, Two};
+use crate::kernels::registers::{Loads, Pair, Paired, Register, Runs, Single, Two};
 use crate::kernels::transpose::{Matrix, Strips, transpose_matrix, transpose_square};
 
 /// The strips of the package.
@@ -526,7 +526,7 @@ fn shuffles() {
         });
         let mut list = lists.concat();
         let mut runs = SliceItems::new(&mut list);
-        let [a, b] = [0, 16 / N].map(|place| Runs::<_, Pair<Of<N>>>::load(&runs, place));
+        let [a, b] = [0, 16 / N].map(|place| Loads::<_, Pair<Of<N>>>::load(&runs, place));
         Runs::<_, Pair<Of<N>>>::store(&mut runs, 0, a.low(b));
         Runs::<_, Pair<Of<N>>>::store(&mut runs, 16 / N, a.high(b));
         let interleaved: Vec<[u8; N]> = lists[0].iter().zip(&lists[1]).flat_map(|(a, b)| [*a, *b]).collect();
@@ -645,7 +645,7 @@ mod refused {
             assert_eq!(D::SIDE, len);
             let mut list = [T::default(); 40];
             let mut places = SliceItems::new(&mut list[..20]);
-            let first = Runs::<T, D>::load(&places, 0);
+            let first = Loads::<T, D>::load(&places, 0);
             for place in 0..=20 {
                 let is_outside = place + len > 20;
                 let call = |places: &mut _| Runs::<T, D>::store(places, place, first);
@@ -654,7 +654,7 @@ mod refused {
                     is_outside,
                     "a store of {len} items at {place}"
                 );
-                let call = |places: &_| _ = Runs::<T, D>::load(places, place);
+                let call = |places: &_| _ = Loads::<T, D>::load(places, place);
                 assert_eq!(panics(|| call(&places)), is_outside, "a load of {len} items at {place}");
             }
         }
@@ -676,7 +676,7 @@ mod refused {
         let mut list = Aligned([0; 24]);
         for len in 16..=20 {
             let mut places = PastCaches(SliceItems::new(&mut list.0[..len]).in_registers::<Pair<Of<4>>>());
-            let run = Runs::<u32, Pair<Of<4>>>::load(&places, 0);
+            let run = Loads::<u32, Pair<Of<4>>>::load(&places, 0);
             for place in 0..=20 {
                 let is_wrong = place + 4 > len || place % 4 != 0;
                 let call = |places: &mut _| Runs::<u32, Pair<Of<4>>>::stream(places, place, run);

@@ -2,6 +2,7 @@
 //!
 //! A kernel is generic over these traits. Each method that changes a list has a body of single
 //! steps, and a contract that counts them. A holder of a slice may have a faster way to do the same.
+//! Where it has none, it can call the method whose name ends in `_singly`, which makes single steps.
 //! A counter keeps these bodies, so it makes and counts each step by itself. A call runs its kernel
 //! on a holder of its own slice, or on a counter. So a holder of a caller needs none of these traits.
 
@@ -46,6 +47,16 @@ pub trait Tiled: Places {
         ensures exchanged { TilesExchanged 64 x y (Self.items self.old) (Self.items self.new) }
         ensures holder { Self.same_holder 64 self.old self.new }
     {
+        self.exchange_tiles_singly(x, y);
+    }
+
+    /// Does the same by 64 calls of `exchange`.
+    #[inline(always)]
+    fn exchange_tiles_singly(&mut self, x: [usize; 8], y: [usize; 8])
+        requires { AreTiles x y (length (Self.items self.old)) }
+        ensures exchanged { TilesExchanged 64 x y (Self.items self.old) (Self.items self.new) }
+        ensures holder { Self.same_holder 64 self.old self.new }
+    {
         len_fits(self.len());
         for r in 0..8 {
             for c in 0..8 {
@@ -60,6 +71,16 @@ pub trait Tiled: Places {
     /// `exchange`.
     #[inline(always)]
     fn turn_tile(&mut self, x: [usize; 8])
+        requires { IsTile x (length (Self.items self.old)) }
+        ensures turned { TileTurned 64 x (Self.items self.old) (Self.items self.new) }
+        ensures holder { Self.same_holder 28 self.old self.new }
+    {
+        self.turn_tile_singly(x);
+    }
+
+    /// Does the same by 28 calls of `exchange`.
+    #[inline(always)]
+    fn turn_tile_singly(&mut self, x: [usize; 8])
         requires { IsTile x (length (Self.items self.old)) }
         ensures turned { TileTurned 64 x (Self.items self.old) (Self.items self.new) }
         ensures holder { Self.same_holder 28 self.old self.new }
@@ -105,6 +126,19 @@ pub trait Blocked: Cells {
     /// a faster way to do this than one call of `put` for each item.
     #[inline(always)]
     fn put_block<R: Ahead<Item = Self::Item>>(&mut self, source: &R, block: Block)
+    where
+        Self: Sized,
+        requires { BlockFits block (length (R.items source.now)) (length (Self.items self.old)) }
+        ensures put { IsBlockPut (block_items block) block (R.items source.now)
+            (Self.items self.old) (Self.items self.new) }
+        ensures holder { Self.same_holder (block_items block) self.old self.new }
+    {
+        self.put_block_singly(source, block);
+    }
+
+    /// Does the same by one call of `put` for each item.
+    #[inline(always)]
+    fn put_block_singly<R: Ahead<Item = Self::Item>>(&mut self, source: &R, block: Block)
     where
         Self: Sized,
         requires { BlockFits block (length (R.items source.now)) (length (Self.items self.old)) }

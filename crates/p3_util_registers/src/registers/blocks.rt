@@ -6,13 +6,13 @@ ghost use Rattle.p3_util_registers.specs.RegisterLines.{LinesReached};
 ghost use Rattle.p3_util_registers.specs.Registers.{IsSide};
 
 use crate::registers::line_blocks::put_by_lines;
-use crate::registers::{Register, Runs, put_by_squares};
+use crate::registers::{Loads, Register, Runs, put_by_squares};
 use p3_util_kernels::kernel::Block;
 use p3_util_kernels::places::{Cells, Source};
 
 /// Cells into which runs are put, too.
 pub(crate) trait RunsOfCells<T: Copy, D: Register<T>>: Runs<T, D> + Cells<Item = T> {
-    ghost same_items: { (a : Self) → Self.Runs.items a ≡ Self.Cells.items a };
+    ghost same_items: { (a : Self) → Self.Loads.items a ≡ Self.Cells.items a };
 
     ghost same_steps: { (n : ℕ) (a b : Self) → Self.Runs.same_holder n a b → Self.Cells.same_holder n a b };
 }
@@ -32,8 +32,8 @@ pub(crate) trait LinesOfCells<T: Copy, D: Register<T>>: RunsOfCells<T, D> {
     fn may_stream_lines(&self, block: Block) -> bool
         requires lines { block.rows ≡ 4 * D.SIDE }
         requires room { (r c : ℕ) → r < block.rows → c < block.cols
-            → block.to + c * block.height + r < length (Self.Runs.items self.now) }
-        ensures { IsTrue result → LinesReached D.SIDE block (Self.Runs.may_stream (Self.Runs.reach self.now)) };
+            → block.to + c * block.height + r < length (Self.Loads.items self.now) }
+        ensures { IsTrue result → LinesReached D.SIDE block (Self.Loads.may_stream (Self.Loads.reach self.now)) };
 }
 
 /// Does what `Blocked::put_block` does: by squares if the block is one that the holder transposes in registers, and otherwise item
@@ -43,7 +43,7 @@ pub(crate) trait LinesOfCells<T: Copy, D: Register<T>>: RunsOfCells<T, D> {
 pub(crate) fn put_block_in_squares<
     T: Copy,
     D: Register<T>,
-    S: Runs<T, D>,
+    S: Loads<T, D>,
     R: Source<Item = T>,
     M: SquaresOfCells<T, D>,
 >(cells: &mut M, runs: &S, source: &R, block: Block)
@@ -51,7 +51,7 @@ pub(crate) fn put_block_in_squares<
     requires fits { BlockFits block (length (R.items source.now)) (length (M.Cells.items cells.old)) }
     requires reads { (p : ℕ) → p + D.SIDE ≤ length (R.items source.now) → S.may (S.reach runs.now) p }
     requires writes { (c r : ℕ) → c < block.cols → r + D.SIDE ≤ block.rows
-        → M.Runs.may (M.Runs.reach cells.old) (block.to + c * block.height + r) }
+        → M.Loads.may (M.Loads.reach cells.old) (block.to + c * block.height + r) }
     ensures put { IsBlockPut (block_items block) block (R.items source.now)
         (M.Cells.items cells.old) (M.Cells.items cells.new) }
     ensures holder { M.Cells.same_holder (block_items block) cells.old cells.new }
@@ -76,7 +76,7 @@ pub(crate) fn put_block_in_squares<
 pub(crate) fn put_block_in_lines<
     T: Copy,
     D: Register<T>,
-    S: Runs<T, D>,
+    S: Loads<T, D>,
     R: Source<Item = T>,
     M: LinesOfCells<T, D>,
 >(cells: &mut M, runs: &S, source: &R, block: Block)
@@ -101,7 +101,7 @@ pub(crate) fn put_block_in_lines<
 pub(crate) fn put_in_squares_if_runs<
     T: Copy,
     D: Register<T>,
-    S: Runs<T, D>,
+    S: Loads<T, D>,
     R: Source<Item = T>,
     M: SquaresOfCells<T, D>,
 >(cells: &mut M, runs: Option<&S>, source: &R, block: Block)
@@ -109,7 +109,7 @@ pub(crate) fn put_in_squares_if_runs<
     requires fits { BlockFits block (length (R.items source.now)) (length (M.Cells.items cells.old)) }
     requires reads { IfSome runs (λ runs. (p : ℕ) → p + D.SIDE ≤ length (R.items source.now) → S.may (S.reach runs.now) p) }
     requires writes { (c r : ℕ) → c < block.cols → r + D.SIDE ≤ block.rows
-        → M.Runs.may (M.Runs.reach cells.old) (block.to + c * block.height + r) }
+        → M.Loads.may (M.Loads.reach cells.old) (block.to + c * block.height + r) }
     ensures put { IsBlockPut (block_items block) block (R.items source.now)
         (M.Cells.items cells.old) (M.Cells.items cells.new) }
     ensures holder { M.Cells.same_holder (block_items block) cells.old cells.new }
@@ -126,7 +126,7 @@ pub(crate) fn put_in_squares_if_runs<
 pub(crate) fn put_in_lines_if_runs<
     T: Copy,
     D: Register<T>,
-    S: Runs<T, D>,
+    S: Loads<T, D>,
     R: Source<Item = T>,
     M: LinesOfCells<T, D>,
 >(cells: &mut M, runs: Option<&S>, source: &R, block: Block)

@@ -6,13 +6,13 @@ ghost use Rattle.p3_util_kernels.specs.BlockPut.{BlockFits, IsBlockPut, block_it
 ghost use Rattle.p3_util_registers.specs.Registers.{ColumnsPut, IsRunStored, IsStored, items_of_four};
 ghost use Rattle.p3_util_registers.specs.RegisterLines.{AreLines, ColumnsReached, LinesReached};
 
-use crate::registers::{Four, Register, Runs, load, load_two, next_stage, starts};
+use crate::registers::{Four, Loads, Register, Runs, load, load_two, next_stage, starts};
 use p3_util_kernels::kernel::Block;
 
 /// Reads 8 rows, from place `from` on, and transposes them. The registers hold the columns, of 8 items
 /// each, one after another.
 #[inline(always)]
-fn load_lines<T, D: Register<T>, S: Runs<T, D>>(list: &S, from: usize, width: usize) -> Four<D>
+fn load_lines<T, D: Register<T>, S: Loads<T, D>>(list: &S, from: usize, width: usize) -> Four<D>
     requires side { (D.SIDE ≡ 2) ⊎ (D.SIDE ≡ 4) }
     requires inside { (r : ℕ) → r < 8 → from + r * width + D.SIDE ≤ length (S.items list.now) }
     requires len_fits { length (S.items list.now) < 2 ^ 63 }
@@ -60,7 +60,7 @@ fn put_line<T, D: Register<T>, M: Runs<T, D>>(list: &mut M, block: Block, col: u
 
 /// Puts `D::SIDE` columns of a block, from column `col` on. Each is stored from its first cell to its last.
 #[inline(never)]
-fn put_some_lines<T, D: Register<T>, S: Runs<T, D>, M: Runs<T, D>>(
+fn put_some_lines<T, D: Register<T>, S: Loads<T, D>, M: Runs<T, D>>(
     cells: &mut M,
     source: &S,
     block: Block,
@@ -95,7 +95,7 @@ fn put_some_lines<T, D: Register<T>, S: Runs<T, D>, M: Runs<T, D>>(
 
 /// Puts a block of one column. Of each row, the registers have some items to the right of this column too.
 #[inline(always)]
-fn put_one_line<T, D: Register<T>, S: Runs<T, D>, M: Runs<T, D>>(
+fn put_one_line<T, D: Register<T>, S: Loads<T, D>, M: Runs<T, D>>(
     cells: &mut M,
     source: &S,
     block: Block,
@@ -125,7 +125,7 @@ fn put_one_line<T, D: Register<T>, S: Runs<T, D>, M: Runs<T, D>>(
 
 /// Puts a column of a block of 4 rows.
 #[inline(always)]
-fn put_four<T, D: Register<T>, S: Runs<T, D>, M: Runs<T, D>>(
+fn put_four<T, D: Register<T>, S: Loads<T, D>, M: Runs<T, D>>(
     cells: &mut M,
     source: &S,
     block: Block,
@@ -152,7 +152,7 @@ fn put_four<T, D: Register<T>, S: Runs<T, D>, M: Runs<T, D>>(
 /// Does what `Blocked::put_block` does, for blocks of 4 * `D::SIDE` rows and as many columns, or of one column, column after
 /// column.
 #[inline(always)]
-pub(crate) fn put_by_lines<T, D: Register<T>, S: Runs<T, D>, M: Runs<T, D>>(
+pub(crate) fn put_by_lines<T, D: Register<T>, S: Loads<T, D>, M: Runs<T, D>>(
     cells: &mut M,
     source: &S,
     block: Block,

@@ -9,7 +9,7 @@ use p3_util_kernels::places::Places;
 
 /// Places of which tiles are exchanged and transposed by runs, too.
 pub(crate) trait RunsOfPlaces<T, D: Register<T>>: Runs<T, D> + Places<Item = T> {
-    ghost same_items: { (a : Self) → Self.Runs.items a ≡ Self.Places.items a };
+    ghost same_items: { (a : Self) → Self.Loads.items a ≡ Self.Places.items a };
 
     /// All items of two tiles are written for 64 exchanges.
     ghost same_tiles: { (a b : Self) → Self.Runs.same_holder 128 a b → Self.Places.same_holder 64 a b };
@@ -26,8 +26,8 @@ pub(crate) fn exchange_both<T, D: Register<T>, M: RunsOfPlaces<T, D>>(
     y: [usize; 8],
 )
     requires tiles { AreTiles x y (length (M.Places.items list.old)) }
-    requires reached_x { RowsReached 8 D.SIDE (slice_index x) (M.Runs.may (M.Runs.reach list.old)) }
-    requires reached_y { RowsReached 8 D.SIDE (slice_index y) (M.Runs.may (M.Runs.reach list.old)) }
+    requires reached_x { RowsReached 8 D.SIDE (slice_index x) (M.Loads.may (M.Loads.reach list.old)) }
+    requires reached_y { RowsReached 8 D.SIDE (slice_index y) (M.Loads.may (M.Loads.reach list.old)) }
     ensures exchanged { TilesExchanged 64 x y (M.Places.items list.old) (M.Places.items list.new) }
     ensures holder { M.Places.same_holder 64 list.old list.new }
 {
@@ -41,7 +41,7 @@ pub(crate) fn exchange_both<T, D: Register<T>, M: RunsOfPlaces<T, D>>(
 #[inline(always)]
 pub(crate) fn turn<T, D: Register<T>, M: RunsOfPlaces<T, D>>(list: &mut M, x: [usize; 8])
     requires tile { IsTile x (length (M.Places.items list.old)) }
-    requires reached { RowsReached 8 D.SIDE (slice_index x) (M.Runs.may (M.Runs.reach list.old)) }
+    requires reached { RowsReached 8 D.SIDE (slice_index x) (M.Loads.may (M.Loads.reach list.old)) }
     ensures turned { TileTurned 64 x (M.Places.items list.old) (M.Places.items list.new) }
     ensures holder { M.Places.same_holder 28 list.old list.new }
 {

@@ -3,6 +3,7 @@
 //!
 //! A kernel is generic over these traits. Each method that changes a list has a body of single
 //! steps, and a contract that counts them. A holder of a slice may have a faster way to do the same.
+//! Where it has none, it can call the method whose name ends in `_singly`, which makes single steps.
 //! A counter keeps these bodies, so it makes and counts each step by itself. A call runs its kernel
 //! on a holder of its own slice, or on a counter. So a holder of a caller needs none of these traits.
 
@@ -39,6 +40,12 @@ pub(crate) trait Tiled: Places {
     /// `exchange`.
     #[inline(always)]
     fn exchange_tiles(&mut self, x: [usize; 8], y: [usize; 8]) {
+        self.exchange_tiles_singly(x, y);
+    }
+
+    /// Does the same by 64 calls of `exchange`.
+    #[inline(always)]
+    fn exchange_tiles_singly(&mut self, x: [usize; 8], y: [usize; 8]) {
         len_fits(self.len());
         for r in 0..8 {
             for c in 0..8 {
@@ -53,6 +60,12 @@ pub(crate) trait Tiled: Places {
     /// `exchange`.
     #[inline(always)]
     fn turn_tile(&mut self, x: [usize; 8]) {
+        self.turn_tile_singly(x);
+    }
+
+    /// Does the same by 28 calls of `exchange`.
+    #[inline(always)]
+    fn turn_tile_singly(&mut self, x: [usize; 8]) {
         len_fits(self.len());
         for row in 0..8 {
             for col in row + 1..8 {
@@ -87,6 +100,15 @@ pub(crate) trait Blocked: Cells {
     /// a faster way to do this than one call of `put` for each item.
     #[inline(always)]
     fn put_block<R: Ahead<Item = Self::Item>>(&mut self, source: &R, block: Block)
+    where
+        Self: Sized,
+    {
+        self.put_block_singly(source, block);
+    }
+
+    /// Does the same by one call of `put` for each item.
+    #[inline(always)]
+    fn put_block_singly<R: Ahead<Item = Self::Item>>(&mut self, source: &R, block: Block)
     where
         Self: Sized,
     {

@@ -89,26 +89,7 @@ impl<'a, T: Copy> Blocked for SliceCells<'a, T> {
             Some(items) if block.rows == 16 && block.cols > 0 => {
                 put_sixteen(self.values, items, block)
             }
-            _ => put_items(self.values, source, block),
-        }
-    }
-}
-
-/// Puts a block item by item.
-#[inline(always)]
-fn put_items<R: Source>(values: &mut [R::Item], source: &R, block: Block) {
-    let Block {
-        rows,
-        cols,
-        from,
-        width,
-        to,
-        height,
-    } = block;
-    len_fits(source.len());
-    for c in 0..cols {
-        for r in 0..rows {
-            values[(to + c * height + r) as core::primitive::usize] = source.at(from + r * width + c);
+            _ => self.put_block_singly(source, block),
         }
     }
 }

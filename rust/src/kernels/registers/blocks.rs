@@ -2,7 +2,7 @@
 //! How a holder puts a block: by whole cache lines, by squares, or item by item.
 
 use crate::kernels::registers::line_blocks::put_by_lines;
-use crate::kernels::registers::{Register, Runs, put_by_squares};
+use crate::kernels::registers::{Loads, Register, Runs, put_by_squares};
 use crate::kernels::kernel::Block;
 use crate::kernels::places::{Cells, Source};
 
@@ -31,7 +31,7 @@ pub(crate) trait LinesOfCells<T: Copy, D: Register<T>>: RunsOfCells<T, D> {
 pub(crate) fn put_block_in_squares<
     T: Copy,
     D: Register<T>,
-    S: Runs<T, D>,
+    S: Loads<T, D>,
     R: Source<Item = T>,
     M: SquaresOfCells<T, D>,
 >(cells: &mut M, runs: &S, source: &R, block: Block) {
@@ -55,7 +55,7 @@ pub(crate) fn put_block_in_squares<
 pub(crate) fn put_block_in_lines<
     T: Copy,
     D: Register<T>,
-    S: Runs<T, D>,
+    S: Loads<T, D>,
     R: Source<Item = T>,
     M: LinesOfCells<T, D>,
 >(cells: &mut M, runs: &S, source: &R, block: Block) {
@@ -73,7 +73,7 @@ pub(crate) fn put_block_in_lines<
 pub(crate) fn put_in_squares_if_runs<
     T: Copy,
     D: Register<T>,
-    S: Runs<T, D>,
+    S: Loads<T, D>,
     R: Source<Item = T>,
     M: SquaresOfCells<T, D>,
 >(cells: &mut M, runs: Option<&S>, source: &R, block: Block) {
@@ -89,7 +89,7 @@ pub(crate) fn put_in_squares_if_runs<
 pub(crate) fn put_in_lines_if_runs<
     T: Copy,
     D: Register<T>,
-    S: Runs<T, D>,
+    S: Loads<T, D>,
     R: Source<Item = T>,
     M: LinesOfCells<T, D>,
 >(cells: &mut M, runs: Option<&S>, source: &R, block: Block) {

@@ -2,13 +2,13 @@
 //! Blocks whose columns are whole cache lines: each column is stored from its first cell to its last, one right
 //! after the other.
 
-use crate::kernels::registers::{Four, Register, Runs, load, load_two, next_stage, starts};
+use crate::kernels::registers::{Four, Loads, Register, Runs, load, load_two, next_stage, starts};
 use crate::kernels::kernel::Block;
 
 /// Reads 8 rows, from place `from` on, and transposes them. The registers hold the columns, of 8 items
 /// each, one after another.
 #[inline(always)]
-fn load_lines<T, D: Register<T>, S: Runs<T, D>>(list: &S, from: usize, width: usize) -> Four<D> {
+fn load_lines<T, D: Register<T>, S: Loads<T, D>>(list: &S, from: usize, width: usize) -> Four<D> {
     let one = load(list, starts(from, width, 8));
     let two = next_stage(one);
     next_stage(two)
@@ -33,7 +33,7 @@ fn put_line<T, D: Register<T>, M: Runs<T, D>>(list: &mut M, block: Block, col: u
 
 /// Puts `D::SIDE` columns of a block, from column `col` on. Each is stored from its first cell to its last.
 #[inline(never)]
-fn put_some_lines<T, D: Register<T>, S: Runs<T, D>, M: Runs<T, D>>(
+fn put_some_lines<T, D: Register<T>, S: Loads<T, D>, M: Runs<T, D>>(
     cells: &mut M,
     source: &S,
     block: Block,
@@ -56,7 +56,7 @@ fn put_some_lines<T, D: Register<T>, S: Runs<T, D>, M: Runs<T, D>>(
 
 /// Puts a block of one column. Of each row, the registers have some items to the right of this column too.
 #[inline(always)]
-fn put_one_line<T, D: Register<T>, S: Runs<T, D>, M: Runs<T, D>>(
+fn put_one_line<T, D: Register<T>, S: Loads<T, D>, M: Runs<T, D>>(
     cells: &mut M,
     source: &S,
     block: Block,
@@ -73,7 +73,7 @@ fn put_one_line<T, D: Register<T>, S: Runs<T, D>, M: Runs<T, D>>(
 
 /// Puts a column of a block of 4 rows.
 #[inline(always)]
-fn put_four<T, D: Register<T>, S: Runs<T, D>, M: Runs<T, D>>(
+fn put_four<T, D: Register<T>, S: Loads<T, D>, M: Runs<T, D>>(
     cells: &mut M,
     source: &S,
     block: Block,
@@ -88,7 +88,7 @@ fn put_four<T, D: Register<T>, S: Runs<T, D>, M: Runs<T, D>>(
 /// Does what `Blocked::put_block` does, for blocks of 4 * `D::SIDE` rows and as many columns, or of one column, column after
 /// column.
 #[inline(always)]
-pub(crate) fn put_by_lines<T, D: Register<T>, S: Runs<T, D>, M: Runs<T, D>>(
+pub(crate) fn put_by_lines<T, D: Register<T>, S: Loads<T, D>, M: Runs<T, D>>(
     cells: &mut M,
     source: &S,
     block: Block,

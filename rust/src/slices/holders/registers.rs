@@ -7,7 +7,7 @@
 //! by one, and touches no memory. Rust code reads and writes items, so a race detector sees these accesses. Only a store
 //! past the caches is assembly too.
 
-use core::mem::{MaybeUninit, transmute};
+use core::mem::MaybeUninit;
 
 use super::bytes::{Bytes, MOVES_BYTES};
 use crate::kernels::registers;
@@ -57,6 +57,13 @@ pub(crate) type Half = MaybeUninit<processor::Half>;
 #[derive(Clone, Copy)]
 pub(crate) struct Items<const N: usize>(Vector);
 
+/// The two halves of a register.
+#[inline(always)]
+fn halves_of(register: &mut Vector) -> &mut [Half; 2] {
+    // SAFETY: they are the register's bytes, which may be unwritten, and need a smaller alignment.
+    unsafe { &mut *register.as_mut_ptr().cast() }
+}
+
 /// Defines registers. A line has the bytes of an item and aarch64's name of such parts of a register. Then it has the name
 /// of each function, and of its one instruction on x86-64 and on aarch64.
 macro_rules! registers {
@@ -90,15 +97,13 @@ macro_rules! registers {
             #[inline(always)]
             fn from_half(first: Half) -> Self {
                 let mut register = Vector::uninit();
-                // SAFETY: a register is two halves, whose bytes may be unwritten.
-                unsafe { *register.as_mut_ptr().cast() = first }
+                halves_of(&mut register)[0] = first;
                 Items(register)
             }
 
             #[inline(always)]
-            fn halves(self) -> (Half, Half) {
-                // SAFETY: a register is two halves.
-                let [first, second] = unsafe { transmute::<Vector, [Half; 2]>(self.0) };
+            fn halves(mut self) -> (Half, Half) {
+                let [first, second] = *halves_of(&mut self.0);
                 (first, second)
             }
         }

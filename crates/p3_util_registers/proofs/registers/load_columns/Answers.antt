@@ -5,7 +5,7 @@ use Rattle.p3_util_registers.proofs.RegistersLemmas.{AreColumns-two, AreColumns-
 use Rattle.p3_util_registers.proofs.registers.load_columns.Goals as goal
 
 pub load-one-requires : goal.load-one-requires
-load-one-requires g c = AreReached-in_order _ (g.S.Runs.may (g.S.Runs.reach c.args.list.now)) _ _ c.requires.some_side (rw c.SIDE-side.ensures at c.in_order.ensures) c.requires.reached
+load-one-requires g c = AreReached-in_order _ (g.S.Loads.may (g.S.Loads.reach c.args.list.now)) _ _ c.requires.some_side (rw c.SIDE-side.ensures at c.in_order.ensures) c.requires.reached
 
 pub returns-then-side-eq2 : goal.returns-then-side-eq2
 returns-then-side-eq2 g c =

@@ -8,7 +8,7 @@ pub store-requires-clause-reached : goal.store-requires-clause-reached
 store-requires-clause-reached g c =
     let is = c.requires.some_side in
     AreReached-rows 8 _ (inr refl) is (side_most _ is) (opposite c.args.sum) c.args.x _ _ (λ j h. opposite_up _ is _ j c.requires.sum c.requires.whole)
-    (rw c.SIDE-side.ensures at c.opposites-tops.ensures) (rw c.SIDE-side.ensures at c.in_rows.ensures) (g.M.Runs.may (g.M.Runs.reach c.args.list.now)) c.requires.reached
+    (rw c.SIDE-side.ensures at c.opposites-tops.ensures) (rw c.SIDE-side.ensures at c.in_rows.ensures) (g.M.Loads.may (g.M.Loads.reach c.args.list.now)) c.requires.reached
 
 pub store-requires-clause-apart : goal.store-requires-clause-apart
 store-requires-clause-apart g c =

@@ -1,7 +1,7 @@
 use Rattle.std.proofs.Common.{◌≡◌, ℕ, ◌+◌, ◌-◌, ◌*◌}
 use Rattle.p3_util_kernels.specs.Exchanged.{TileTurned}
 use Rattle.p3_util_kernels.specs.SwapCounts.{square_swaps}
-use Rattle.p3_util_kernels.proofs.places.bulk.Tiled.turn_tile.Given as goal
+use Rattle.p3_util_kernels.proofs.places.bulk.Tiled.turn_tile_singly.Given as goal
 
 -- the rows before this one are exchanged to the right of the diagonal, and the others still have the
 -- exchanges of a smaller square

@@ -1,6 +1,6 @@
 use Rattle.std.proofs.Common.{◌+◌, ◌*◌}
 use Rattle.p3_util_kernels.specs.BlockPut.{IsBlockPut}
-use Rattle.p3_util_kernels.proofs.places.bulk.Blocked.put_block.Given as goal
+use Rattle.p3_util_kernels.proofs.places.bulk.Blocked.put_block_singly.Given as goal
 
 -- the columns before c of the block are put, and of column c the items before row r
 abbrev pub invariant-loop-c : goal.invariant-loop-c

@@ -3,7 +3,7 @@
 use Rattle.std.proofs.Common.{◌≡◌, ◌+◌, ◌-◌, ◌*◌, suc, refl, arith}
 use Rattle.p3_util_kernels.proofs.PlacesLemmas.Tiles.{TileTurned-more, TileTurned-row}
 use Rattle.p3_util_kernels.proofs.GridLemmas.Pairs.{square_swaps-next}
-use Rattle.p3_util_kernels.proofs.places.bulk.Tiled.turn_tile.Goals as goal
+use Rattle.p3_util_kernels.proofs.places.bulk.Tiled.turn_tile_singly.Goals as goal
 
 pub loop-col-init : goal.loop-col-init
 loop-col-init g c =

@@ -1,7 +1,7 @@
 -- Each turn of the inner loop puts one more item of the block.
 use Rattle.std.proofs.Common.{◌≡◌, ◌+◌, ◌*◌, refl, arith}
 use Rattle.p3_util_kernels.proofs.PlacesLemmas.Blocks.{IsBlockPut-more}
-use Rattle.p3_util_kernels.proofs.places.bulk.Blocked.put_block.Goals as goal
+use Rattle.p3_util_kernels.proofs.places.bulk.Blocked.put_block_singly.Goals as goal
 
 pub loop-r-init : goal.loop-r-init
 loop-r-init g c =
