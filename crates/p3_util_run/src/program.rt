@@ -19,6 +19,7 @@ use p3_util_kernels::transpose::{fits_matrix, transpose};
 use std::alloc::Global;
 use std::io::{Read, Write};
 
+/// So many bytes are asked for at once.
 const CHUNK: usize = 8192;
 
 /// Runs the program on its arguments, a reader of the input and a writer of the output.
@@ -36,50 +37,48 @@ pub fn run<R: Read, W: Write>(
     reader: &mut Watched<R>,
     writer: &mut Watched<W>,
 ) -> Result<(), RunFault>
-    // All input was read. Its answer was written, and nothing else.
+    // On `Ok`, all input was read up to the first read that yields no byte. Its answer was written
+    // and flushed, and nothing else. No read ever follows that one.
     ensures ok { OnOk result ((input text : List ℕ)
         × ReadsAll (R.remaining reader.old.inner) (R.remaining reader.new.inner) input
         × Out (texts_of words.now) input text
         × Appends (W.contents writer.old.inner) (W.contents writer.new.inner) text) }
-    // The writer was flushed after the last write.
     ensures flushed { OnOk result (writer.new.is_flushed ≡ true) }
-    // The input ends with a read that yields no byte, and no read follows it.
     ensures ended { reader.old.input_end ≡ Ahead → OnOk result (reader.new.input_end ≡ Reached) }
     ensures not_passed { reader.old.input_end ≡ Ahead → reader.new.input_end ≢ Passed }
-    // There is at most one text.
-    ensures one_text { (input a b : List ℕ) → Out (texts_of words.now) input a
-        → Out (texts_of words.now) input b
-        → a ≡ b }
-    // All input was read, and it has no answer.
+
+    // On a fault of the input, all input was read, and it has no answer. An unknown command is
+    // returned before anything is read, and only `Write` after something is written.
     ensures refused { IfErr result (λ fault. IsOfInput fault → (input : List ℕ)
         × ReadsAll (R.remaining reader.old.inner) (R.remaining reader.new.inner) input
         × Fault (texts_of words.now) input fault) }
-    // The converse of `ok` and of `refused`.
-    ensures answers { IfSome (R.remaining reader.old.inner) (λ input. IsSettled result
-        → (IsOk result ↔ IsDefined (texts_of words.now) input)) }
-    ensures refuses { IfSome (R.remaining reader.old.inner) (λ input. IsSettled result
-        → (fault : RunFault) → (result ≡ Err fault) ↔ Fault (texts_of words.now) input fault) }
-
-    // This fault depends on the arguments alone, and then nothing is read.
     ensures unknown { (result ≡ Err RunFault.UnknownCommand)
         ↔ (command_of (texts_of words.now) ≡ None) }
     ensures unread { result ≡ Err RunFault.UnknownCommand → reader.new ≡ reader.old }
     ensures unwritten { IfErr result (λ fault. fault ≢ RunFault.Write → writer.new ≡ writer.old) }
 
-    // A counted failure leads to its fault, and only such a failure does, as long as the count is
-    // not at its maximum.
-    ensures reader_failed { result ≡ Err RunFault.Read → HasFailed reader.old reader.new }
-    ensures reader_fault { reader.old.failures < reader.new.failures → result ≡ Err RunFault.Read }
-    ensures writer_failed { result ≡ Err RunFault.Write → HasFailed writer.old writer.new }
-    ensures writer_fault { writer.old.failures < writer.new.failures → result ≡ Err RunFault.Write }
-
-    // The first failure ends the run, so exactly one is counted.
+    // A failure leads to its fault, and only a failure does. The first ends the run, so exactly one
+    // is counted, unless the count is at its maximum.
     ensures reader_once { (result ≡ Err RunFault.Read
         → reader.new.failures ≡ noted reader.old.failures)
         × (result ≢ Err RunFault.Read → reader.new.failures ≡ reader.old.failures) }
     ensures writer_once { (result ≡ Err RunFault.Write
         → writer.new.failures ≡ noted writer.old.failures)
         × (result ≢ Err RunFault.Write → writer.new.failures ≡ writer.old.failures) }
+    ensures reader_failed { result ≡ Err RunFault.Read → HasFailed reader.old reader.new }
+    ensures reader_fault { reader.old.failures < reader.new.failures → result ≡ Err RunFault.Read }
+    ensures writer_failed { result ≡ Err RunFault.Write → HasFailed writer.old writer.new }
+    ensures writer_fault { writer.old.failures < writer.new.failures → result ≡ Err RunFault.Write }
+
+    // If the bytes of the input are known, the result is `Ok` if they have an answer, and otherwise
+    // their fault, unless the reader, the memory or the writer fails. There is at most one answer.
+    ensures answers { IfSome (R.remaining reader.old.inner) (λ input. IsSettled result
+        → (IsOk result ↔ IsDefined (texts_of words.now) input)) }
+    ensures refuses { IfSome (R.remaining reader.old.inner) (λ input. IsSettled result
+        → (fault : RunFault) → (result ≡ Err fault) ↔ Fault (texts_of words.now) input fault) }
+    ensures one_text { (input a b : List ℕ) → Out (texts_of words.now) input a
+        → Out (texts_of words.now) input b
+        → a ≡ b }
 {
     let Some(command) = Command::from_words(words) else {
         return Err(RunFault::UnknownCommand);

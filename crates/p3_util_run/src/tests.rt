@@ -9,25 +9,25 @@ use std::io::{ErrorKind, Read, Write};
 use std::process::Abort;
 use std::{io, str};
 
-/// A reader that yields one byte a call. After `good_reads` of them, one call fails, or yields no
-/// byte if there is no `failure`.
+/// A reader that yields one byte a call. After `good_calls` of them, one call fails, or yields no
+/// byte if there is no `failure`. Then `good_calls` is `u8::MAX`.
 #[derive(Drop)]
 struct ByteReader<'a> {
     rest: &'a [u8],
-    good_reads: u8,
+    good_calls: u8,
     failure: Option<ErrorKind>,
 }
 
 impl Read for ByteReader<'_> {
     fn read(&mut self, buf: &mut [u8]) -> io::Result<usize> {
-        if self.good_reads == 0 {
-            self.good_reads = u8::MAX;
+        if self.good_calls == 0 {
+            self.good_calls = u8::MAX;
             return match self.failure {
                 Some(kind) => Err(io::Error::from(kind)),
                 None => Ok(0),
             };
         }
-        self.good_reads -= 1;
+        self.good_calls -= 1;
         match (self.rest, buf) {
             ([first, rest @ ..], [to, ..]) => {
                 *to = *first;
@@ -39,26 +39,25 @@ impl Read for ByteReader<'_> {
     }
 }
 
-/// A writer that takes one byte a call. After `good_writes` of them, one call fails, or takes no
-/// byte if there is no `failure`. Its flushes fail if `flushes` is false.
+/// A writer that takes one byte a call. After `good_calls` calls, one fails, or takes no byte if
+/// there is no `failure`. Then `good_calls` is `u8::MAX`. A flush is a call too.
 #[derive(Drop)]
 struct ByteWriter {
     taken: Vec<u8>,
-    good_writes: u8,
+    good_calls: u8,
     failure: Option<ErrorKind>,
-    flushes: bool,
 }
 
 impl Write for ByteWriter {
     fn write(&mut self, buf: &[u8]) -> io::Result<usize> {
-        if self.good_writes == 0 {
-            self.good_writes = u8::MAX;
+        if self.good_calls == 0 {
+            self.good_calls = u8::MAX;
             return match self.failure {
                 Some(kind) => Err(io::Error::from(kind)),
                 None => Ok(0),
             };
         }
-        self.good_writes -= 1;
+        self.good_calls -= 1;
         match buf {
             [first, ..] => {
                 self.taken.push(*first)?;
@@ -69,11 +68,12 @@ impl Write for ByteWriter {
     }
 
     fn flush(&mut self) -> io::Result<()> {
-        if self.flushes {
-            Ok(())
-        } else {
-            Err(io::Error::from(ErrorKind::Other))
+        if self.good_calls == 0 {
+            self.good_calls = u8::MAX;
+            return Err(io::Error::from(self.failure.unwrap_or(ErrorKind::Other)));
         }
+        self.good_calls -= 1;
+        Ok(())
     }
 }
 
@@ -132,14 +132,13 @@ fn check_row(rt: &impl Abort, alloc: Global, row: &Row) -> Result<(), AllocError
 
     let mut reader = Watched::new(ByteReader {
         rest: input,
-        good_reads: u8::MAX,
+        good_calls: u8::MAX,
         failure: None,
     });
     let mut writer = Watched::new(ByteWriter {
         taken: Vec::new(alloc),
-        good_writes: u8::MAX,
+        good_calls: u8::MAX,
         failure: None,
-        flushes: true,
     });
     let result = run(alloc, &words, &mut reader, &mut writer);
     check_printed(rt, alloc, row, &result, &writer.into_inner().taken)
@@ -313,8 +312,8 @@ struct Failing {
     failures: (u64, u64),
 }
 
-/// Asserts that the first failure ends a run and is counted once, even if the next call would
-/// succeed. Returns the number of bytes that were written.
+/// Asserts that the first failure ends a run, is counted once and is the last call, even if the
+/// next call would succeed. Returns the number of bytes that were written.
 fn check_failure(rt: &impl Abort, alloc: Global, failing: Failing) -> Result<usize, AllocError> {
     let Failing {
         good_reads,
@@ -325,14 +324,13 @@ fn check_failure(rt: &impl Abort, alloc: Global, failing: Failing) -> Result<usi
     } = failing;
     let mut reader = Watched::new(ByteReader {
         rest: b"[1,2]",
-        good_reads,
+        good_calls: good_reads,
         failure,
     });
     let mut writer = Watched::new(ByteWriter {
         taken: Vec::new(alloc),
-        good_writes,
+        good_calls: good_writes,
         failure,
-        flushes: false,
     });
     let words = owned(alloc, &["revbits"])?;
     let result = run(alloc, &words, &mut reader, &mut writer);
@@ -343,10 +341,17 @@ fn check_failure(rt: &impl Abort, alloc: Global, failing: Failing) -> Result<usi
         failures,
         "after {calls:?} calls"
     );
-    Ok(writer.into_inner().taken.len())
+    let (reader, writer) = (reader.into_inner(), writer.into_inner());
+    assert_eq!(rt;
+        (reader.good_calls == u8::MAX, writer.good_calls),
+        (failures.0 == 1, u8::MAX),
+        "after {calls:?} calls"
+    );
+    Ok(writer.taken.len())
 }
 
-/// A `Watched` that tries again, or fails without a call, fails here.
+/// A `Watched` that calls again after an error, counted or not, or that fails without a call, fails
+/// here.
 #[test]
 fn failures(rt: HostRuntime) -> Result<(), AllocError> {
     let alloc = rt.alloc();
