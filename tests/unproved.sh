@@ -1,6 +1,6 @@
 #!/usr/bin/env bash
-# Runs the tests of tests/unproved without a proof, in a copy of the crates: those of the library, which are a crate of their
-# own, those of the program, next to its proved ones, and those of the example p3_util_transform.
+# Runs the tests of tests/unproved without a proof, in a copy of the crates: those of the library and of the callers, which are
+# a crate of their own, and those of the program, next to its proved ones.
 #
 #     tests/unproved.sh [FLAG..]
 #     tests/unproved.sh --refused
@@ -25,20 +25,22 @@ if [[ ${1-} = --refused ]]; then
 fi
 
 below='p3_util_callers p3_util_kernels p3_util p3_util_vectors'
-for crate in $below p3_util_run p3_util_transform; do
+for crate in $below p3_util_run; do
     mkdir -p "$copy/crates/$crate"
     cp -a "crates/$crate/src" "$copy/crates/$crate/"
     grep "^$crate:" crates.txt >>"$copy/crates.txt"
 done
 mkdir -p "$copy/crates/p3_util_unproved/src"
+cp -a tests/unproved/c "$copy/crates/p3_util_unproved/"
 echo "p3_util_unproved: $below serde_json" >>"$copy/crates.txt"
+printf '\nmod unproved;\n' >>"$copy/crates/p3_util_run/src/tests.rt"
 
 refused=$(sed -n 's/.*--fail-alloc \([0-9]*\).*/\1/p' <<<"$*")
 # On a machine with nothing else to do, the longest test takes 20 seconds, mostly since `rt try` looks for bad accesses. With
 # other work it takes many times that.
 export RT_ALLOW_C=1 CFLAGS="-DREFUSED=${refused:-0}" RT_SECONDS=${RT_SECONDS-600}
 
-# tests_of CRATE FOLDER ROOT FLAG..: runs the tests of a folder, which are modules of the crate. The gate would take a file
+# tests_of CRATE FOLDER FLAG..: runs the tests of a folder, which are modules of the crate. The gate would take a file
 # that ends in .rt for one of the crates that it proves, so they end in .rt.in here.
 tests_of() {
     local file written src=$copy/crates/$1/src
@@ -47,16 +49,10 @@ tests_of() {
     for file in $(cd "$2" && find . -name '*.rt.in'); do
         cp "$2/$file" "$src/${file%.in}"
     done
-    case $3 in
-        lib.rt.in) cp -a tests/unproved/c "$copy/crates/$1/" ;;
-        tests.rt) printf '\nmod unproved;\n' >>"$src/$3" ;;
-        *) printf '\n#[cfg(test)]\nmod tests;\n' >>"$src/$3" ;;
-    esac
     written=$(find "$src" -name '*.rt' -exec cat {} + | grep -c '^#\[test\]$')
-    (cd "$copy/crates/$1" && rt try --test "${@:4}") | tee "$copy/printed"
+    (cd "$copy/crates/$1" && rt try --test "${@:3}") | tee "$copy/printed"
     grep -qx "tests: $written" "$copy/printed" || { echo "FAILED  $written tests are written in $1" && exit 1; }
 }
 
-tests_of p3_util_unproved tests/unproved/src lib.rt.in "$@"
-tests_of p3_util_run tests/unproved/p3_util_run tests.rt "$@"
-tests_of p3_util_transform tests/unproved/p3_util_transform lib.rt "$@"
+tests_of p3_util_unproved tests/unproved/src "$@"
+tests_of p3_util_run tests/unproved/p3_util_run "$@"

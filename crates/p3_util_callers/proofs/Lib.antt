@@ -4,3 +4,4 @@ mod DiagonalLemmas
 mod JoinedLemmas
 mod QuadrantsLemmas
 mod TilesLemmas
+mod TransformLemmas

@@ -1,2 +1,5 @@
 pub mod Diagonal
 pub mod MapCalls
+pub mod Matrix
+pub mod Stages
+pub mod Transform

@@ -1,5 +1,5 @@
 //! Callers of `p3_util`, proved from public contracts alone: compositions of its calls, a holder of
-//! two slices, lists of calls on a map, and short uses.
+//! two slices, lists of calls on a map, a transform of the columns of a matrix, and short uses.
 #![tactic(auto)]
 
 pub mod compose;
@@ -7,4 +7,5 @@ pub mod joined;
 pub mod linear_map;
 pub mod quadrants;
 pub mod tiles;
+pub mod transform;
 pub mod uses;
