@@ -52,7 +52,6 @@ fn run_all<F: Send>(parts: ReversalParts<'_, F>) {
     parts.into_par_iter().for_each(|part| part.run());
 }
 
-#[allow(dead_code, reason = "the original's transposes may be kept in their place")]
 pub mod transpose {
     //! Transposes of matrices that are stored as flat slices, row after row.
 
