@@ -1,6 +1,6 @@
 //! How a holder puts a block: by whole cache lines, by squares, or item by item.
 
-ghost use Rattle.std.specs.Prelude.{◌≡◌, ℕ, ◌+◌, ◌*◌, ◌^◌, ◌<◌, ◌≤◌, ◌⊎◌, IfSome, IsTrue, length};
+ghost use Rattle.std.specs.Prelude.{◌≡◌, ℕ, ◌+◌, ◌*◌, ◌^◌, ◌<◌, ◌≤◌, ◌⊎◌, IsTrue, length};
 ghost use Rattle.p3_util_kernels.specs.BlockPut.{BlockFits, IsBlockPut, block_items};
 ghost use Rattle.p3_util_registers.specs.RegisterLines.{LinesReached};
 ghost use Rattle.p3_util_registers.specs.Registers.{IsSide};
@@ -93,54 +93,6 @@ pub(crate) fn put_block_in_lines<
         return;
     }
     put_singly(cells, source, block);
-}
-
-/// Does what `Blocked::put_block` does: as [`put_block_in_squares`] if there are `runs`, which have the items of the source,
-/// and otherwise item by item.
-#[inline(always)]
-pub(crate) fn put_in_squares_if_runs<
-    T: Copy,
-    D: Register<T>,
-    S: Loads<T, D>,
-    R: Source<Item = T>,
-    M: SquaresOfCells<T, D>,
->(cells: &mut M, runs: Option<&S>, source: &R, block: Block)
-    requires same { IfSome runs (λ runs. S.items runs.now ≡ R.items source.now) }
-    requires fits { BlockFits block (length (R.items source.now)) (length (M.Cells.items cells.old)) }
-    requires reads { IfSome runs (λ runs. (p : ℕ) → p + D.SIDE ≤ length (R.items source.now) → S.may (S.reach runs.now) p) }
-    requires writes { (c r : ℕ) → c < block.cols → r + D.SIDE ≤ block.rows
-        → M.Loads.may (M.Loads.reach cells.old) (block.to + c * block.height + r) }
-    ensures put { IsBlockPut (block_items block) block (R.items source.now)
-        (M.Cells.items cells.old) (M.Cells.items cells.new) }
-    ensures holder { M.Cells.same_holder (block_items block) cells.old cells.new }
-{
-    match runs {
-        Some(runs) => put_block_in_squares(cells, runs, source, block),
-        None => put_singly(cells, source, block),
-    }
-}
-
-/// Does what `Blocked::put_block` does: as [`put_block_in_lines`] if there are `runs`, which have the items of the source,
-/// and otherwise item by item.
-#[inline(always)]
-pub(crate) fn put_in_lines_if_runs<
-    T: Copy,
-    D: Register<T>,
-    S: Loads<T, D>,
-    R: Source<Item = T>,
-    M: LinesOfCells<T, D>,
->(cells: &mut M, runs: Option<&S>, source: &R, block: Block)
-    requires same { IfSome runs (λ runs. S.items runs.now ≡ R.items source.now) }
-    requires fits { BlockFits block (length (R.items source.now)) (length (M.Cells.items cells.old)) }
-    requires reads { IfSome runs (λ runs. (p : ℕ) → p + D.SIDE ≤ length (R.items source.now) → S.may (S.reach runs.now) p) }
-    ensures put { IsBlockPut (block_items block) block (R.items source.now)
-        (M.Cells.items cells.old) (M.Cells.items cells.new) }
-    ensures holder { M.Cells.same_holder (block_items block) cells.old cells.new }
-{
-    match runs {
-        Some(runs) => put_block_in_lines(cells, runs, source, block),
-        None => put_singly(cells, source, block),
-    }
 }
 
 /// Whether a block has the rows and columns of whole lines, and a source of `len` items has `side` items of each row, from the

@@ -67,38 +67,6 @@ pub(crate) fn put_block_in_lines<
     put_singly(cells, source, block);
 }
 
-/// Does what `Blocked::put_block` does: as [`put_block_in_squares`] if there are `runs`, which have the items of the source,
-/// and otherwise item by item.
-#[inline(always)]
-pub(crate) fn put_in_squares_if_runs<
-    T: Copy,
-    D: Register<T>,
-    S: Loads<T, D>,
-    R: Source<Item = T>,
-    M: SquaresOfCells<T, D>,
->(cells: &mut M, runs: Option<&S>, source: &R, block: Block) {
-    match runs {
-        Some(runs) => put_block_in_squares(cells, runs, source, block),
-        None => put_singly(cells, source, block),
-    }
-}
-
-/// Does what `Blocked::put_block` does: as [`put_block_in_lines`] if there are `runs`, which have the items of the source,
-/// and otherwise item by item.
-#[inline(always)]
-pub(crate) fn put_in_lines_if_runs<
-    T: Copy,
-    D: Register<T>,
-    S: Loads<T, D>,
-    R: Source<Item = T>,
-    M: LinesOfCells<T, D>,
->(cells: &mut M, runs: Option<&S>, source: &R, block: Block) {
-    match runs {
-        Some(runs) => put_block_in_lines(cells, runs, source, block),
-        None => put_singly(cells, source, block),
-    }
-}
-
 /// Whether a block has the rows and columns of whole lines, and a source of `len` items has `side` items of each row, from the
 /// block's first column on.
 #[inline(always)]
