@@ -21,7 +21,7 @@ use crate::kernels::kernel::{Ahead, Block, Blocked, Tiled};
 use crate::kernels::parts::Shared;
 use crate::kernels::places::{Cells, Places, Source};
 use crate::kernels::registers::blocks::{
-    LinesOfCells, RunsOfCells, SquaresOfCells, put_in_lines_if_runs, put_in_squares_if_runs,
+    LinesOfCells, RunsOfCells, SquaresOfCells, put_block_in_lines, put_block_in_squares,
 };
 use crate::kernels::registers::tiles::{self, RunsOfPlaces};
 use crate::kernels::registers::{Loads, Register, Runs, Single, Two};
@@ -270,8 +270,8 @@ impl<T: Copy, D: Register<T>> Blocked for SliceItems<'_, T, D> {
     #[cfg_attr(debug_assertions, inline(never))]
     #[cfg_attr(not(debug_assertions), inline(always))]
     fn put_block<R: Ahead<Item = T>>(&mut self, source: &R, block: Block) {
-        let runs = source.as_slice().map(SliceSource::new);
-        put_in_squares_if_runs(self, runs.as_ref(), source, block);
+        let runs = SliceSource::new(source.as_slice().expect("a whole slice"));
+        put_block_in_squares(self, &runs, source, block);
     }
 }
 
@@ -363,8 +363,8 @@ impl<T: Copy, D: Register<T>> Blocked for PastCaches<'_, T, D> {
     #[cfg_attr(debug_assertions, inline(never))]
     #[cfg_attr(not(debug_assertions), inline(always))]
     fn put_block<R: Ahead<Item = T>>(&mut self, source: &R, block: Block) {
-        let runs = source.as_slice().map(SliceSource::new);
-        put_in_lines_if_runs(self, runs.as_ref(), source, block);
+        let runs = SliceSource::new(source.as_slice().expect("a whole slice"));
+        put_block_in_lines(self, &runs, source, block);
     }
 }
 

@@ -1,14 +1,14 @@
 //! How a holder puts a block: by whole cache lines, by squares, or item by item.
 
-ghost use Rattle.std.specs.Prelude.{◌≡◌, ℕ, ◌+◌, ◌*◌, ◌^◌, ◌<◌, ◌≤◌, ◌⊎◌, IfSome, IsTrue, length};
+ghost use Rattle.std.specs.Prelude.{◌≡◌, ℕ, ◌+◌, ◌*◌, ◌^◌, ◌<◌, ◌≤◌, ◌⊎◌, IsTrue, length};
 ghost use Rattle.p3_util_kernels.specs.BlockPut.{BlockFits, IsBlockPut, block_items};
 ghost use Rattle.p3_util_registers.specs.RegisterLines.{LinesReached};
 ghost use Rattle.p3_util_registers.specs.Registers.{IsSide};
 
 use crate::registers::line_blocks::put_by_lines;
 use crate::registers::{Loads, Register, Runs, put_by_squares};
-use p3_util_kernels::kernel::Block;
-use p3_util_kernels::places::{Cells, Source};
+use p3_util_kernels::kernel::{Ahead, Block, Blocked};
+use p3_util_kernels::places::Cells;
 
 /// Cells into which runs are put, too.
 pub(crate) trait RunsOfCells<T: Copy, D: Register<T>>: Runs<T, D> + Cells<Item = T> {
@@ -44,8 +44,8 @@ pub(crate) fn put_block_in_squares<
     T: Copy,
     D: Register<T>,
     S: Loads<T, D>,
-    R: Source<Item = T>,
-    M: SquaresOfCells<T, D>,
+    R: Ahead<Item = T>,
+    M: SquaresOfCells<T, D> + Blocked,
 >(cells: &mut M, runs: &S, source: &R, block: Block)
     requires same { S.items runs.now ≡ R.items source.now }
     requires fits { BlockFits block (length (R.items source.now)) (length (M.Cells.items cells.old)) }
@@ -67,7 +67,7 @@ pub(crate) fn put_block_in_squares<
             }
         }
     }
-    put_singly(cells, source, block);
+    cells.put_block_singly(source, block);
 }
 
 /// Does what `Blocked::put_block` does: by whole lines if the holder may stream the lines of the block, and otherwise item by item.
@@ -77,8 +77,8 @@ pub(crate) fn put_block_in_lines<
     T: Copy,
     D: Register<T>,
     S: Loads<T, D>,
-    R: Source<Item = T>,
-    M: LinesOfCells<T, D>,
+    R: Ahead<Item = T>,
+    M: LinesOfCells<T, D> + Blocked,
 >(cells: &mut M, runs: &S, source: &R, block: Block)
     requires same { S.items runs.now ≡ R.items source.now }
     requires fits { BlockFits block (length (R.items source.now)) (length (M.Cells.items cells.old)) }
@@ -92,55 +92,7 @@ pub(crate) fn put_block_in_lines<
         put_by_lines(cells, runs, block);
         return;
     }
-    put_singly(cells, source, block);
-}
-
-/// Does what `Blocked::put_block` does: as [`put_block_in_squares`] if there are `runs`, which have the items of the source,
-/// and otherwise item by item.
-#[inline(always)]
-pub(crate) fn put_in_squares_if_runs<
-    T: Copy,
-    D: Register<T>,
-    S: Loads<T, D>,
-    R: Source<Item = T>,
-    M: SquaresOfCells<T, D>,
->(cells: &mut M, runs: Option<&S>, source: &R, block: Block)
-    requires same { IfSome runs (λ runs. S.items runs.now ≡ R.items source.now) }
-    requires fits { BlockFits block (length (R.items source.now)) (length (M.Cells.items cells.old)) }
-    requires reads { IfSome runs (λ runs. (p : ℕ) → p + D.SIDE ≤ length (R.items source.now) → S.may (S.reach runs.now) p) }
-    requires writes { (c r : ℕ) → c < block.cols → r + D.SIDE ≤ block.rows
-        → M.Loads.may (M.Loads.reach cells.old) (block.to + c * block.height + r) }
-    ensures put { IsBlockPut (block_items block) block (R.items source.now)
-        (M.Cells.items cells.old) (M.Cells.items cells.new) }
-    ensures holder { M.Cells.same_holder (block_items block) cells.old cells.new }
-{
-    match runs {
-        Some(runs) => put_block_in_squares(cells, runs, source, block),
-        None => put_singly(cells, source, block),
-    }
-}
-
-/// Does what `Blocked::put_block` does: as [`put_block_in_lines`] if there are `runs`, which have the items of the source,
-/// and otherwise item by item.
-#[inline(always)]
-pub(crate) fn put_in_lines_if_runs<
-    T: Copy,
-    D: Register<T>,
-    S: Loads<T, D>,
-    R: Source<Item = T>,
-    M: LinesOfCells<T, D>,
->(cells: &mut M, runs: Option<&S>, source: &R, block: Block)
-    requires same { IfSome runs (λ runs. S.items runs.now ≡ R.items source.now) }
-    requires fits { BlockFits block (length (R.items source.now)) (length (M.Cells.items cells.old)) }
-    requires reads { IfSome runs (λ runs. (p : ℕ) → p + D.SIDE ≤ length (R.items source.now) → S.may (S.reach runs.now) p) }
-    ensures put { IsBlockPut (block_items block) block (R.items source.now)
-        (M.Cells.items cells.old) (M.Cells.items cells.new) }
-    ensures holder { M.Cells.same_holder (block_items block) cells.old cells.new }
-{
-    match runs {
-        Some(runs) => put_block_in_lines(cells, runs, source, block),
-        None => put_singly(cells, source, block),
-    }
+    cells.put_block_singly(source, block);
 }
 
 /// Whether a block has the rows and columns of whole lines, and a source of `len` items has `side` items of each row, from the
@@ -174,33 +126,4 @@ fn is_square(side: usize, square: usize, block: Block) -> bool
         && (square == 4 || square == 8)
         && (side == 2 || side == 4 || side == 8)
         && side <= square
-}
-
-/// Puts a block item by item.
-#[inline(always)]
-pub(crate) fn put_singly<C: Cells, R: Source<Item = C::Item>>(
-    cells: &mut C,
-    source: &R,
-    block: Block,
-)
-    requires { BlockFits block (length (R.items source.now)) (length (C.items cells.old)) }
-    ensures put { IsBlockPut (block_items block) block (R.items source.now)
-        (C.items cells.old) (C.items cells.new) }
-    ensures holder { C.same_holder (block_items block) cells.old cells.new }
-{
-    let Block {
-        rows,
-        cols,
-        from,
-        width,
-        to,
-        height,
-    } = block;
-    let _source_len = source.len();
-    let _cells_len = C::len(cells);
-    for c in 0..cols {
-        for r in 0..rows {
-            cells.put(to + c * height + r, source.at(from + r * width + c));
-        }
-    }
 }

@@ -5,6 +5,7 @@ ghost use Rattle.p3_util_kernels.specs.Exchanged.{AreTiles, IsTile, TileTurned, 
 ghost use Rattle.p3_util_registers.specs.Registers.{IsSquareOf, ItemsExchanged, RowsReached};
 
 use crate::registers::{Register, Runs, exchange_tiles, turn_tile};
+use p3_util_kernels::kernel::Tiled;
 use p3_util_kernels::places::Places;
 
 /// Places of which tiles are exchanged and transposed by runs, too.
@@ -39,7 +40,7 @@ pub(crate) fn exchange_both<T, D: Register<T>, M: RunsOfPlaces<T, D>>(
 
 /// Does what `Tiled::turn_tile` does: in registers if squares have 2, 4 or 8 rows, and otherwise item by item.
 #[inline(always)]
-pub(crate) fn turn<T, D: Register<T>, M: RunsOfPlaces<T, D>>(list: &mut M, x: [usize; 8])
+pub(crate) fn turn<T, D: Register<T>, M: RunsOfPlaces<T, D> + Tiled>(list: &mut M, x: [usize; 8])
     requires tile { IsTile x (length (M.Places.items list.old)) }
     requires reached { RowsReached 8 D.SIDE (slice_index x) (M.Loads.may (M.Loads.reach list.old)) }
     ensures turned { TileTurned 64 x (M.Places.items list.old) (M.Places.items list.new) }
@@ -47,7 +48,7 @@ pub(crate) fn turn<T, D: Register<T>, M: RunsOfPlaces<T, D>>(list: &mut M, x: [u
 {
     match D::SIDE {
         2 | 4 | 8 => turn_tile(list, x),
-        _ => turn_singly(list, x),
+        _ => list.turn_tile_singly(x),
     }
 }
 
@@ -77,21 +78,6 @@ fn exchange_square<M: Places>(list: &mut M, x: [usize; 8], y: [usize; 8], row: u
     for r in 0..4 {
         for c in 0..4 {
             list.exchange(x[row + r] + (col + c), y[col + c] + (row + r));
-        }
-    }
-}
-
-/// Transposes a tile item by item.
-#[inline(always)]
-fn turn_singly<M: Places>(list: &mut M, x: [usize; 8])
-    requires { IsTile x (length (M.items list.old)) }
-    ensures turned { TileTurned 64 x (M.items list.old) (M.items list.new) }
-    ensures holder { M.same_holder 28 list.old list.new }
-{
-    let _len = list.len();
-    for row in 0..8 {
-        for col in row + 1..8 {
-            list.exchange(x[row] + col, x[col] + row);
         }
     }
 }

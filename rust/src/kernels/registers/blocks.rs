@@ -3,8 +3,8 @@
 
 use crate::kernels::registers::line_blocks::put_by_lines;
 use crate::kernels::registers::{Loads, Register, Runs, put_by_squares};
-use crate::kernels::kernel::Block;
-use crate::kernels::places::{Cells, Source};
+use crate::kernels::kernel::{Ahead, Block, Blocked};
+use crate::kernels::places::Cells;
 
 /// Cells into which runs are put, too.
 pub(crate) trait RunsOfCells<T: Copy, D: Register<T>>: Runs<T, D> + Cells<Item = T> {}
@@ -32,8 +32,8 @@ pub(crate) fn put_block_in_squares<
     T: Copy,
     D: Register<T>,
     S: Loads<T, D>,
-    R: Source<Item = T>,
-    M: SquaresOfCells<T, D>,
+    R: Ahead<Item = T>,
+    M: SquaresOfCells<T, D> + Blocked,
 >(cells: &mut M, runs: &S, source: &R, block: Block) {
     let side = D::SIDE;
     match M::SQUARE {
@@ -46,7 +46,7 @@ pub(crate) fn put_block_in_squares<
             }
         }
     }
-    put_singly(cells, source, block);
+    cells.put_block_singly(source, block);
 }
 
 /// Does what `Blocked::put_block` does: by whole lines if the holder may stream the lines of the block, and otherwise item by item.
@@ -56,47 +56,15 @@ pub(crate) fn put_block_in_lines<
     T: Copy,
     D: Register<T>,
     S: Loads<T, D>,
-    R: Source<Item = T>,
-    M: LinesOfCells<T, D>,
+    R: Ahead<Item = T>,
+    M: LinesOfCells<T, D> + Blocked,
 >(cells: &mut M, runs: &S, source: &R, block: Block) {
     let (side, len) = (D::SIDE, source.len());
     if is_of_lines(side, block, len) && cells.may_stream_lines(block) {
         put_by_lines(cells, runs, block);
         return;
     }
-    put_singly(cells, source, block);
-}
-
-/// Does what `Blocked::put_block` does: as [`put_block_in_squares`] if there are `runs`, which have the items of the source,
-/// and otherwise item by item.
-#[inline(always)]
-pub(crate) fn put_in_squares_if_runs<
-    T: Copy,
-    D: Register<T>,
-    S: Loads<T, D>,
-    R: Source<Item = T>,
-    M: SquaresOfCells<T, D>,
->(cells: &mut M, runs: Option<&S>, source: &R, block: Block) {
-    match runs {
-        Some(runs) => put_block_in_squares(cells, runs, source, block),
-        None => put_singly(cells, source, block),
-    }
-}
-
-/// Does what `Blocked::put_block` does: as [`put_block_in_lines`] if there are `runs`, which have the items of the source,
-/// and otherwise item by item.
-#[inline(always)]
-pub(crate) fn put_in_lines_if_runs<
-    T: Copy,
-    D: Register<T>,
-    S: Loads<T, D>,
-    R: Source<Item = T>,
-    M: LinesOfCells<T, D>,
->(cells: &mut M, runs: Option<&S>, source: &R, block: Block) {
-    match runs {
-        Some(runs) => put_block_in_lines(cells, runs, source, block),
-        None => put_singly(cells, source, block),
-    }
+    cells.put_block_singly(source, block);
 }
 
 /// Whether a block has the rows and columns of whole lines, and a source of `len` items has `side` items of each row, from the
@@ -118,28 +86,4 @@ fn is_square(side: usize, square: usize, block: Block) -> bool {
         && (square == 4 || square == 8)
         && (side == 2 || side == 4 || side == 8)
         && side <= square
-}
-
-/// Puts a block item by item.
-#[inline(always)]
-pub(crate) fn put_singly<C: Cells, R: Source<Item = C::Item>>(
-    cells: &mut C,
-    source: &R,
-    block: Block,
-) {
-    let Block {
-        rows,
-        cols,
-        from,
-        width,
-        to,
-        height,
-    } = block;
-    let _source_len = source.len();
-    let _cells_len = C::len(cells);
-    for c in 0..cols {
-        for r in 0..rows {
-            cells.put(to + c * height + r, source.at(from + r * width + c));
-        }
-    }
 }

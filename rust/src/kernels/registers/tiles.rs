@@ -2,6 +2,7 @@
 //! How a holder exchanges two tiles, or transposes one: in registers, or by single exchanges.
 
 use crate::kernels::registers::{Register, Runs, exchange_tiles, turn_tile};
+use crate::kernels::kernel::Tiled;
 use crate::kernels::places::Places;
 
 /// Places of which tiles are exchanged and transposed by runs, too.
@@ -22,10 +23,10 @@ pub(crate) fn exchange_both<T, D: Register<T>, M: RunsOfPlaces<T, D>>(
 
 /// Does what `Tiled::turn_tile` does: in registers if squares have 2, 4 or 8 rows, and otherwise item by item.
 #[inline(always)]
-pub(crate) fn turn<T, D: Register<T>, M: RunsOfPlaces<T, D>>(list: &mut M, x: [usize; 8]) {
+pub(crate) fn turn<T, D: Register<T>, M: RunsOfPlaces<T, D> + Tiled>(list: &mut M, x: [usize; 8]) {
     match D::SIDE {
         2 | 4 | 8 => turn_tile(list, x),
-        _ => turn_singly(list, x),
+        _ => list.turn_tile_singly(x),
     }
 }
 
@@ -45,17 +46,6 @@ fn exchange_square<M: Places>(list: &mut M, x: [usize; 8], y: [usize; 8], row: u
     for r in 0..4 {
         for c in 0..4 {
             list.exchange(x[row + r] + (col + c), y[col + c] + (row + r));
-        }
-    }
-}
-
-/// Transposes a tile item by item.
-#[inline(always)]
-fn turn_singly<M: Places>(list: &mut M, x: [usize; 8]) {
-    let _len = list.len();
-    for row in 0..8 {
-        for col in row + 1..8 {
-            list.exchange(x[row] + col, x[col] + row);
         }
     }
 }
