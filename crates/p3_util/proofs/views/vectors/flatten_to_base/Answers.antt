@@ -3,6 +3,7 @@
 use Rattle.std.proofs.Common.{◌≡◌, ◌*◌, ap, arith, length, rules, ◌∙◌}
 use Rattle.std.proofs.Math.Nat.{mul-mod_left}
 use Rattle.std.proofs.lemmas.List.{take_all}
+use Rattle.p3_util.specs.Flat.{flat}
 use Rattle.p3_util.proofs.Moved.{cut-more, left-more, moved-more-rows}
 use Rattle.p3_util.proofs.PiecesLemmas.{IsFlat-pieces, pieces-nil}
 use Rattle.p3_util.proofs.views.vectors.flatten_to_base.Goals as goal
@@ -34,3 +35,13 @@ returns-clause-places g c =
 
 pub returns-clause-divides : goal.returns-clause-divides
 returns-clause-divides g c = rw c.loop-row.invariant.full (mul-mod_left c.loop-row.row-index g.row.N)
+
+pub returns-clause-items : goal.returns-clause-items
+returns-clause-items g c =
+    let rows = c.args.vec.items in
+    c.loop-row.invariant.moved ∙ ap flat (take_all c.loop-row.row-index rows (omega (arith, c.loop-row-test.false, ap length c.deref_mut-row-items.ensures.value)))
+
+pub returns-clause-rows : goal.returns-clause-rows
+returns-clause-rows g c some =
+    let rows = c.args.vec.items in
+    c.loop-row.invariant.cut some ∙ take_all c.loop-row.row-index rows (omega (arith, c.loop-row-test.false, ap length c.deref_mut-row-items.ensures.value))

@@ -62,3 +62,6 @@ returns-clause-places g c =
 pub returns-clause-items : goal.returns-clause-items
 returns-clause-items g c =
     none_left c.args.vec.items (flat c.loop.rows.items) (into_iter_items c.loop.items) (vec_len c.args.vec) c.loop.counter g.row.N c.loop.invariant.moved c.loop.invariant.left (rw c.len-count.ensures at c.loop-test.false) c.requires.divides
+
+pub returns-clause-rows : goal.returns-clause-rows
+returns-clause-rows g c = sym c.loop.invariant.cut ∙ ap (λ l. pieces g.row.N l) (returns-clause-items g c)
