@@ -127,3 +127,25 @@ fn parts_of_a_split_in_order(rt: HostRuntime) {
         next = place.wrapping_add(1);
     }
 }
+
+/// Of 129 rows of 3 items, the first 64 are put before the others, column after column. Without a
+/// split, the first 128 would be.
+#[test]
+fn halves_of_a_split_in_order(rt: HostRuntime) {
+    let shape = Shape {
+        width: 3,
+        height: 129,
+    };
+    for call in [Put::Split(64), Put::SourceSplit(64)] {
+        let puts = puts(&rt, rt.alloc(), call, shape);
+        equal(&rt, &puts.len(), &387);
+        for (k, place) in puts.iter().enumerate() {
+            let wanted = if k < 192 {
+                (k / 64, k % 64)
+            } else {
+                ((k - 192) / 65, 64 + (k - 192) % 65)
+            };
+            same(&rt, k, &(*place / 129, *place % 129), &wanted);
+        }
+    }
+}

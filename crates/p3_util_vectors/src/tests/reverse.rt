@@ -134,12 +134,15 @@ fn check_numbered<T: Item>(rt: &impl Abort, alloc: Global) {
     }
 }
 
-/// With items of 1, 3, 8 and 32 bytes.
+/// With every type of items.
 #[test]
 fn numbered_items(rt: HostRuntime) {
     check_numbered::<u8>(&rt, rt.alloc());
-    check_numbered::<[u8; 3]>(&rt, rt.alloc());
+    check_numbered::<u32>(&rt, rt.alloc());
     check_numbered::<u64>(&rt, rt.alloc());
+    check_numbered::<u128>(&rt, rt.alloc());
+    check_numbered::<[u8; 3]>(&rt, rt.alloc());
+    check_numbered::<[u8; 8]>(&rt, rt.alloc());
     check_numbered::<[u64; 4]>(&rt, rt.alloc());
 }
 

@@ -73,7 +73,7 @@ const NUMBERED: [(usize, usize, u128, &[(usize, u64)]); 7] = [
     (1025, 1024, 1_049_600, &[(1, 1025), (1024, 1)]),
 ];
 
-/// With the hashes of the original's transposes.
+/// With the hashes of the original's transposes, by both calls.
 #[test]
 fn numbered_items(rt: HostRuntime) {
     for (width, height, wanted) in TRANSPOSES {
@@ -81,6 +81,13 @@ fn numbered_items(rt: HostRuntime) {
         let input = items(&rt, rt.alloc(), shape.len());
         let output = transposed_slice(&rt, rt.alloc(), &input, shape);
         same(&rt, width, &hash(&output), &wanted);
+        let (output, writes) = transposed(&rt, rt.alloc(), Put::On, &input, shape);
+        same(
+            &rt,
+            width,
+            &(hash(&output), writes),
+            &(wanted, shape.len() as u128),
+        );
     }
     for (width, height, wanted, places) in NUMBERED {
         let shape = Shape { width, height };
