@@ -196,108 +196,92 @@ pub(crate) fn put_as_block<M: Blocked, R: Ahead<Item = M::Item> + Copy>(
     out
 }
 
-/// Puts a region column after column.
+/// A way to put one column of a region. It is also a way to put a region, column after column.
+pub(crate) trait PutColumn: Copy {
+    /// Puts a column of `rows` items into consecutive cells from `to` on. The column begins at index
+    /// `from` of the source.
+    fn put_column<M: Blocked, R: Ahead<Item = M::Item> + Copy>(
+        self,
+        out: M,
+        matrix: Matrix<R>,
+        from: usize,
+        to: usize,
+        rows: usize,
+    ) -> M;
+}
+
+impl<C: PutColumn> PutRegion for C {
+    #[inline(always)]
+    fn put<M: Blocked, R: Ahead<Item = M::Item> + Copy>(
+        self,
+        out: M,
+        matrix: Matrix<R>,
+        region: Region,
+    ) -> M {
+        if region.row_start == region.row_end {
+            // A region without rows has no item, however many columns it has.
+            return out;
+        }
+        let mut out = out;
+        for col in region.col_start..region.col_end {
+            let from = region.row_start * matrix.width + col;
+            let to = col * matrix.height + region.row_start;
+            out = self.put_column(out, matrix, from, to, region.rows());
+        }
+        out
+    }
+}
+
+/// Puts most items of a column by loops of `COLUMN_ITEMS` items, and the rest by one more loop.
 #[derive(Clone, Copy)]
 pub(crate) struct Columns;
 
-impl PutRegion for Columns {
+impl PutColumn for Columns {
     #[inline(always)]
-    fn put<M: Blocked, R: Ahead<Item = M::Item> + Copy>(
+    fn put_column<M: Blocked, R: Ahead<Item = M::Item> + Copy>(
         self,
         out: M,
         matrix: Matrix<R>,
-        region: Region,
+        from: usize,
+        to: usize,
+        rows: usize,
     ) -> M {
-        if region.row_start == region.row_end {
-            // A region without rows has no item, however many columns it has.
-            return out;
-        }
         let mut out = out;
-        for col in region.col_start..region.col_end {
-            let from = region.row_start * matrix.width + col;
-            let to = col * matrix.height + region.row_start;
-            out = put_column(out, matrix, from, to, region.rows());
+        for group in 0..rows / COLUMN_ITEMS {
+            let done = group * COLUMN_ITEMS;
+            let start = from + done * matrix.width;
+            out = ShortColumns.put_column(out, matrix, start, to + done, COLUMN_ITEMS);
+        }
+        let done = rows / COLUMN_ITEMS * COLUMN_ITEMS;
+        if done < rows {
+            let start = from + done * matrix.width;
+            out = ShortColumns.put_column(out, matrix, start, to + done, rows - done);
         }
         out
     }
 }
 
-/// Puts a region column after column, each in one loop. If the columns are short, this takes fewer
-/// instructions than [`Columns`] does, most of all in a build without optimization for speed.
+/// Puts a column by one loop. If the columns are short, this takes fewer instructions than
+/// [`Columns`] does, most of all in a build without optimization for speed.
 #[derive(Clone, Copy)]
 pub(crate) struct ShortColumns;
 
-impl PutRegion for ShortColumns {
+impl PutColumn for ShortColumns {
     #[inline(always)]
-    fn put<M: Blocked, R: Ahead<Item = M::Item> + Copy>(
+    fn put_column<M: Blocked, R: Ahead<Item = M::Item> + Copy>(
         self,
         out: M,
         matrix: Matrix<R>,
-        region: Region,
+        from: usize,
+        to: usize,
+        rows: usize,
     ) -> M {
-        if region.row_start == region.row_end {
-            // A region without rows has no item, however many columns it has.
-            return out;
-        }
         let mut out = out;
-        for col in region.col_start..region.col_end {
-            let from = region.row_start * matrix.width + col;
-            let to = col * matrix.height + region.row_start;
-            out = put_items(out, matrix, from, to, region.rows());
+        let mut t = 0;
+        while t < rows {
+            out.put(to + t, matrix.source.at(from + t * matrix.width));
+            t += 1;
         }
         out
     }
-}
-
-/// Puts a column of `rows` items into consecutive cells from `to` on. The column begins at index
-/// `from` of the source. Most items are put by loops of `COLUMN_ITEMS` items, and the rest by one
-/// more loop.
-#[inline(always)]
-fn put_column<M: Blocked, R: Ahead<Item = M::Item> + Copy>(
-    out: M,
-    matrix: Matrix<R>,
-    from: usize,
-    to: usize,
-    rows: usize,
-) -> M {
-    let mut out = out;
-    for group in 0..rows / COLUMN_ITEMS {
-        let done = group * COLUMN_ITEMS;
-        out = put_items(
-            out,
-            matrix,
-            from + done * matrix.width,
-            to + done,
-            COLUMN_ITEMS,
-        );
-    }
-    let done = rows / COLUMN_ITEMS * COLUMN_ITEMS;
-    if done < rows {
-        out = put_items(
-            out,
-            matrix,
-            from + done * matrix.width,
-            to + done,
-            rows - done,
-        );
-    }
-    out
-}
-
-/// Does the same as [`put_column`], in one loop.
-#[inline(always)]
-fn put_items<M: Blocked, R: Ahead<Item = M::Item> + Copy>(
-    out: M,
-    matrix: Matrix<R>,
-    from: usize,
-    to: usize,
-    rows: usize,
-) -> M {
-    let mut out = out;
-    let mut t = 0;
-    while t < rows {
-        out.put(to + t, matrix.source.at(from + t * matrix.width));
-        t += 1;
-    }
-    out
 }

@@ -3,10 +3,10 @@
 use Rattle.std.proofs.Common.{◌≡◌, ◌+◌, ◌-◌, ◌*◌, ◌/◌, arith}
 use Rattle.p3_util_kernels.proofs.TransposeLemmas.Columns.{HoldsColumn-some, IsColumnPut-more}
 use Rattle.p3_util_kernels.specs.declared.transpose.ways.TheConstants.{COLUMN_ITEMS}
-use Rattle.p3_util_kernels.proofs.transpose.ways.put_column.Goals as goal
+use Rattle.p3_util_kernels.proofs.transpose.ways.ColumnsPutColumn.put_column.Goals as goal
 
-pub put_items-out-requires : goal.put_items-out-requires
-put_items-out-requires g c = record {
+pub put_column-out-requires : goal.put_column-out-requires
+put_column-out-requires g c = record {
   column = HoldsColumn-some c.args.rows _ _ _ _ _ _ (c.loop-group.group * COLUMN_ITEMS) COLUMN_ITEMS (omega arith) c.loop-group.invariant.put.same_length c.requires.column;
 }
 
@@ -14,12 +14,12 @@ pub loop-group-preserved : goal.loop-group-preserved
 loop-group-preserved g c =
     let more : (c.loop-group.group + 1) * COLUMN_ITEMS ≡ c.loop-group.group * COLUMN_ITEMS + COLUMN_ITEMS = omega arith in
     record {
-      put = rw more (IsColumnPut-more _ _ (c.loop-group.group * COLUMN_ITEMS) COLUMN_ITEMS _ _ _ _ _ c.loop-group.invariant.put c.put_items-out.ensures.put);
-      holder = g.met.M.Cells.same_holder_trans _ _ _ _ _ _ c.loop-group.invariant.holder c.put_items-out.ensures.holder (omega arith);
+      put = rw more (IsColumnPut-more _ _ (c.loop-group.group * COLUMN_ITEMS) COLUMN_ITEMS _ _ _ _ _ c.loop-group.invariant.put c.put_column-out.ensures.put);
+      holder = g.met.M.Cells.same_holder_trans _ _ _ _ _ _ c.loop-group.invariant.holder c.put_column-out.ensures.holder (omega arith);
     }
 
-pub put_items-out-requires-then-done-rows : goal.put_items-out-requires-then-done-rows
-put_items-out-requires-then-done-rows g c = record {
+pub put_column-out-requires-then-done-rows : goal.put_column-out-requires-then-done-rows
+put_column-out-requires-then-done-rows g c = record {
   column = HoldsColumn-some c.args.rows _ _ _ _ _ _ (c.args.rows / COLUMN_ITEMS * COLUMN_ITEMS) (c.args.rows - c.args.rows / COLUMN_ITEMS * COLUMN_ITEMS) (omega arith) c.loop-group.invariant.put.same_length c.requires.column;
 }
 
@@ -28,4 +28,4 @@ returns-then-done-rows-clause-put g c =
     let all : c.loop-group.group ≡ c.args.rows / COLUMN_ITEMS = omega arith in
     let whole : c.args.rows / COLUMN_ITEMS * COLUMN_ITEMS + (c.args.rows - c.args.rows / COLUMN_ITEMS * COLUMN_ITEMS) ≡ c.args.rows = omega arith in
     rw whole at
-    (IsColumnPut-more _ _ (c.args.rows / COLUMN_ITEMS * COLUMN_ITEMS) _ _ _ _ _ _ (rw all at c.loop-group.invariant.put) c.put_items-out-then-done-rows.ensures.put)
+    (IsColumnPut-more _ _ (c.args.rows / COLUMN_ITEMS * COLUMN_ITEMS) _ _ _ _ _ _ (rw all at c.loop-group.invariant.put) c.put_column-out-then-done-rows.ensures.put)

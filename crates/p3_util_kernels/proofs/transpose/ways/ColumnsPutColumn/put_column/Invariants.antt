@@ -1,7 +1,7 @@
 use Rattle.std.proofs.Common.{◌*◌}
 use Rattle.p3_util_kernels.specs.Columns.{IsColumnPut}
 use Rattle.p3_util_kernels.specs.declared.transpose.ways.TheConstants.{COLUMN_ITEMS}
-use Rattle.p3_util_kernels.proofs.transpose.ways.put_column.Given as goal
+use Rattle.p3_util_kernels.proofs.transpose.ways.ColumnsPutColumn.put_column.Given as goal
 
 -- the groups of items before this one are put
 abbrev pub invariant-loop-group : goal.invariant-loop-group

@@ -2,7 +2,7 @@
 use Rattle.std.proofs.Common.{◌≡◌, ◌+◌, ◌-◌, arith}
 use Rattle.p3_util_kernels.proofs.TransposeLemmas.Columns.{HoldsColumn-region, IsRegionTransposed-column}
 use Rattle.p3_util_kernels.proofs.TransposeLemmas.Region.{IsCut-cols, IsRegionTransposed-cut}
-use Rattle.p3_util_kernels.proofs.transpose.ways.ColumnsPutRegion.put.Goals as goal
+use Rattle.p3_util_kernels.proofs.transpose.ways.AnyPutRegion.put.Goals as goal
 
 pub put_column-out-requires : goal.put_column-out-requires
 put_column-out-requires g c = record {

@@ -1,6 +1,6 @@
 use Rattle.std.proofs.Common.{◌-◌, ◌*◌}
 use Rattle.p3_util_kernels.specs.Region.{IsRegionTransposed, rows_of}
-use Rattle.p3_util_kernels.proofs.transpose.ways.ColumnsPutRegion.put.Given as goal
+use Rattle.p3_util_kernels.proofs.transpose.ways.AnyPutRegion.put.Given as goal
 
 -- the columns before `col` are put
 abbrev pub invariant-loop-col : goal.invariant-loop-col
