@@ -8,7 +8,7 @@ use std::vec::Vec;
 use super::{one_part_reversal, ranges_if_cut, row_reversal, transpose};
 use crate::kernels::kernel::Tiled;
 use crate::kernels::lines::Lines;
-use crate::kernels::parts::numbers::Plan;
+use crate::kernels::parts::numbers::{PartsLeft, Plan};
 use crate::kernels::parts::{Cut, RowPairs, TransposePlan};
 use crate::kernels::places::{SliceCells, SlicePlaces, SliceSource, Writes};
 use crate::kernels::reverse::{RowDigits, reverse_rows};
@@ -109,7 +109,9 @@ fn exchange_by_plan<const N: usize, const WIDTH: usize>(rows: &mut [[[u8; N]; WI
     fn exchange(places: impl Tiled, width: usize, parts: usize, is_cut: bool, number: usize) {
         let len = places.len();
         if is_cut {
-            let _ = RowPairs::new(len, width, parts).exchange_patch(places, number);
+            let mut left = PartsLeft::of(RowPairs::new(len, width, parts));
+            let patch = (0..=number).find_map(|k| left.hand_out().filter(|_| k == number));
+            let _ = patch.unwrap().exchange(places);
         } else {
             let _ = reverse_rows(places, RowDigits::of(len, width));
         }
