@@ -155,17 +155,6 @@ pub const fn assert_send<T: Send>() {}
 #[inline]
 pub const fn assert_sync<T: Sync>() {}
 
-#[cold]
-#[inline(never)]
-#[track_caller]
-fn refuse_rows(len: usize, row_width: usize) -> ! {
-    match row_width {
-        0 => panic!("length {len} is not zero, and a row has no items"),
-        1 => panic!("Not a power of two: {len} items"),
-        _ => panic!("length {len} is not {row_width} times zero or a power of two"),
-    }
-}
-
 /// Cuts the items of `iter` up to its first `None` into arrays of `N` items. If `N` is 0, there is no array.
 ///
 /// If `N` does not divide their number, the last array is filled with `default`. In [`apply_to_chunks`] the last chunk is

@@ -4,12 +4,11 @@
 //! It is proved that a kernel whose own precondition holds meets the preconditions of the steps of every holder. So
 //! `holders.rs` and its folder, which have all the unsafe code, check no index. With the feature `checked`, the holders of
 //! `checked.rs` are used instead, which check each one. Proved code chooses how a matrix is put, in `kernels/calls.rs`.
-//! `by_size.rs` has an instance of the kernels for each usual size of an item. With `checked` and on 32 bits there are none.
+//! `by_size.rs` has an instance of the kernels for each usual size of an item. With `checked` and on 32 bits, `by_type.rs` is
+//! used instead, which has none.
 //!
 //! On a system of 32 bits, `narrow.rs` has the holders: those of the kernels, which check each index too.
 
-use crate::kernels::calls;
-use crate::kernels::kernel::Tiled;
 use crate::kernels::reverse::fits_rows;
 use crate::kernels::transpose::fits_matrix;
 use crate::width::Index;
@@ -19,27 +18,14 @@ use holders::{SliceItems, SliceSource, WholeList};
 #[cfg_attr(all(feature = "checked", target_pointer_width = "64"), path = "slices/checked.rs")]
 #[cfg_attr(not(feature = "checked"), allow(unsafe_code))]
 mod holders;
-#[cfg_attr(feature = "checked", path = "slices/types_alone.rs")]
-#[cfg_attr(not(feature = "checked"), path = "slices/by_size.rs")]
-#[cfg(target_pointer_width = "64")]
+#[cfg_attr(
+    all(not(feature = "checked"), target_pointer_width = "64"),
+    path = "slices/by_size.rs"
+)]
+#[cfg_attr(any(feature = "checked", target_pointer_width = "32"), path = "slices/by_type.rs")]
 mod instances;
 #[cfg(target_pointer_width = "64")]
 pub mod parts;
-
-#[cfg(target_pointer_width = "32")]
-use {super::slices as instances, calls::transpose_whole};
-
-/// Reverses the order of items by index bits.
-#[inline(never)]
-fn reverse(items: impl Tiled) {
-    let _ = calls::reverse(items);
-}
-
-/// Reverses the order of rows by index bits. If this were inlined, a function that chooses would save registers before it does.
-#[inline(never)]
-fn reverse_rows(items: impl Tiled, row_width: Index) {
-    let _ = calls::reverse_rows(items, row_width);
-}
 
 /// Reverses the order of `vals` by index bits.
 ///
@@ -64,7 +50,7 @@ fn reverse_rows(items: impl Tiled, row_width: Index) {
 #[track_caller]
 pub fn reverse_slice_index_bits<F: Send + Sync>(vals: &mut [F]) {
     if !fits_rows(vals.len() as Index, 1) {
-        crate::refuse_rows(vals.len(), 1);
+        refuse_rows(vals.len(), 1);
     }
     if size_of::<F>() > 0 {
         instances::reverse(WholeList::new(vals));
@@ -88,7 +74,7 @@ pub fn reverse_slice_index_bits<F: Send + Sync>(vals: &mut [F]) {
 #[track_caller]
 pub fn reverse_slice_row_index_bits<F>(vals: &mut [F], row_width: usize) {
     if !fits_rows(vals.len() as Index, row_width as Index) {
-        crate::refuse_rows(vals.len(), row_width);
+        refuse_rows(vals.len(), row_width);
     }
     if size_of_val(vals) > 0 {
         instances::reverse_rows(WholeList::new(vals), row_width as Index);
@@ -126,6 +112,17 @@ pub fn transpose<T: Copy + Send + Sync>(input: &[T], output: &mut [T], width: us
     }
     if size_of::<T>() > 0 {
         instances::transpose_whole(SliceItems::new(output), SliceSource::new(input), cols, rows);
+    }
+}
+
+#[cold]
+#[inline(never)]
+#[track_caller]
+fn refuse_rows(len: usize, row_width: usize) -> ! {
+    match row_width {
+        0 => panic!("length {len} is not zero, and a row has no items"),
+        1 => panic!("Not a power of two: {len} items"),
+        _ => panic!("length {len} is not {row_width} times zero or a power of two"),
     }
 }
 

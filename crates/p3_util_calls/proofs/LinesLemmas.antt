@@ -162,39 +162,39 @@ module _ {A : Type 0} (region : Region) (width height : ℕ) (input : List A) wh
       }
 
 -- the rows to which columns are put
-module _ (region : Region) (cells before skew : ℕ) (order : region.row_start ≤ region.row_end) where
-  pub limit-none : (x : ℕ) → limit region cells before skew 0 x ≡ region.row_start
+module _ (region : Region) (cells before step : ℕ) (order : region.row_start ≤ region.row_end) where
+  pub limit-none : (x : ℕ) → limit region cells before step 0 x ≡ region.row_start
   limit-none x = omega arith
 
-  pub limit-all : (most done x : ℕ) → cells_before region.row_start cells before skew x ≤ most → rows_of region + most ≤ done → limit region cells before skew done x ≡ region.row_end
+  pub limit-all : (most done x : ℕ) → cells_before region.row_start cells before step x ≤ most → rows_of region + most ≤ done → limit region cells before step done x ≡ region.row_end
   limit-all most done x less enough = omega (arith, order, enough, less)
 
-  pub limit-from : (done x : ℕ) → region.row_start ≤ limit region cells before skew done x
+  pub limit-from : (done x : ℕ) → region.row_start ≤ limit region cells before step done x
   limit-from done x = omega arith
 
-  pub limit-to : (done x : ℕ) → limit region cells before skew done x ≤ region.row_end
+  pub limit-to : (done x : ℕ) → limit region cells before step done x ≤ region.row_end
   limit-to done x = omega (arith, order)
 
-  pub limit-more : (done next x : ℕ) → done ≤ next → limit region cells before skew done x ≤ limit region cells before skew next x
+  pub limit-more : (done next x : ℕ) → done ≤ next → limit region cells before step done x ≤ limit region cells before step next x
   limit-more done next x more = omega (arith, more)
 
   -- columns that are put together have the same limits
-  pub limit-alike : (done col end x : ℕ) → (skew ≡ 0) ⊎ (end ≡ col + 1) → col ≤ x → x < end → limit region cells before skew done x ≡ limit region cells before skew done col
+  pub limit-alike : (done col end x : ℕ) → (step ≡ 0) ⊎ (end ≡ col + 1) → col ≤ x → x < end → limit region cells before step done x ≡ limit region cells before step done col
   limit-alike done col end x (inl none) from to = rw none (let same : x * 0 ≡ col * 0 = omega arith in rw same refl)
   limit-alike done col end x (inr one) from to = let same : x ≡ col = omega (arith, one, from, to) in rw same refl
 
   -- after a step
-  pub ahead-here : (done next col end x : ℕ) → (skew ≡ 0) ⊎ (end ≡ col + 1) → col ≤ x → x < end
-      → (ahead col (limit region cells before skew done) (limit region cells before skew next) x ≡ limit region cells before skew done col)
-      × (ahead end (limit region cells before skew done) (limit region cells before skew next) x ≡ limit region cells before skew next col)
+  pub ahead-here : (done next col end x : ℕ) → (step ≡ 0) ⊎ (end ≡ col + 1) → col ≤ x → x < end
+      → (ahead col (limit region cells before step done) (limit region cells before step next) x ≡ limit region cells before step done col)
+      × (ahead end (limit region cells before step done) (limit region cells before step next) x ≡ limit region cells before step next col)
   ahead-here done next col end x alike from to = (
     ahead-right col _ _ x from ∙ limit-alike done col end x alike from to,
     ahead-left end _ _ x to ∙ limit-alike next col end x alike from to,
   )
 
   -- lines that are whole in every column
-  pub limit-whole : (done x : ℕ) → cells_before region.row_start cells before skew x ≤ done → done + cells ≤ rows_of region
-      → limit region cells before skew (done + cells) x ≡ limit region cells before skew done x + cells
+  pub limit-whole : (done x : ℕ) → cells_before region.row_start cells before step x ≤ done → done + cells ≤ rows_of region
+      → limit region cells before step (done + cells) x ≡ limit region cells before step done x + cells
   limit-whole done x from to = omega (arith, from, to)
 
 pub ahead-there : (col end : ℕ) (f g : ℕ → ℕ) (x : ℕ) → col < end → (x < col) ⊎ (end ≤ x) → ahead end f g x ≡ ahead col f g x
@@ -202,19 +202,19 @@ ahead-there col end f g x order (inl before) = ahead-left end f g x (omega (arit
 ahead-there col end f g x order (inr after) = ahead-right end f g x after ∙ sym (ahead-right col f g x (omega (arith, order, after)))
 
 -- the columns from c on and before e, which have the same limits, are put from row a to row b
-pub further : {A : Type 0} (region : Region) (width height : ℕ) (input mid new : List A) (cells before skew done next a b c e : ℕ)
+pub further : {A : Type 0} (region : Region) (width height : ℕ) (input mid new : List A) (cells before step done next a b c e : ℕ)
     → region.row_start ≤ region.row_end → region.row_end ≤ height → done ≤ next → region.col_start ≤ c → c < e → e ≤ region.col_end
-    → (skew ≡ 0) ⊎ (e ≡ c + 1) → a ≡ limit region cells before skew done c → b ≡ limit region cells before skew next c
+    → (step ≡ 0) ⊎ (e ≡ c + 1) → a ≡ limit region cells before step done c → b ≡ limit region cells before step next c
     → IsRegionTransposed (record { row_start = a; row_end = b; col_start = c; col_end = e }) width height input mid new
-    → ((old : List A) → IsPutTo region (ahead c (limit region cells before skew done) (limit region cells before skew next)) width height input old mid
-    → IsPutTo region (ahead e (limit region cells before skew done) (limit region cells before skew next)) width height input old new)
-    × (items_to region (ahead c (limit region cells before skew done) (limit region cells before skew next)) + (b - a) * (e - c)
-    ≡ items_to region (ahead e (limit region cells before skew done) (limit region cells before skew next)))
-further region width height input mid new cells before skew done next a b c e order low more from some to alike left right put =
-    let f : ℕ → ℕ = limit region cells before skew done in
-    let g : ℕ → ℕ = limit region cells before skew next in
+    → ((old : List A) → IsPutTo region (ahead c (limit region cells before step done) (limit region cells before step next)) width height input old mid
+    → IsPutTo region (ahead e (limit region cells before step done) (limit region cells before step next)) width height input old new)
+    × (items_to region (ahead c (limit region cells before step done) (limit region cells before step next)) + (b - a) * (e - c)
+    ≡ items_to region (ahead e (limit region cells before step done) (limit region cells before step next)))
+further region width height input mid new cells before step done next a b c e order low more from some to alike left right put =
+    let f : ℕ → ℕ = limit region cells before step done in
+    let g : ℕ → ℕ = limit region cells before step next in
     let here : (x : ℕ) → c ≤ x → x < e → (ahead c f g x ≡ a) × (ahead e f g x ≡ b) =
-    λ x lower upper. let at = ahead-here region cells before skew order done next c e x alike lower upper in (at.0 ∙ sym left, at.1 ∙ sym right) in
+    λ x lower upper. let at = ahead-here region cells before step order done next c e x alike lower upper in (at.0 ∙ sym left, at.1 ∙ sym right) in
     let there : (x : ℕ) → (x < c) ⊎ (e ≤ x) → ahead e f g x ≡ ahead c f g x = λ x out. ahead-there c e f g x some out in (
       λ old first. IsPutTo-more region width height input a b c e (ahead c f g) (ahead e f g) old mid new low (omega (arith, left)) (omega (arith, left, right, more)) (omega (arith, right, order)) from to here there first put,
       items_to-more region a b c e (ahead c f g) (ahead e f g) (omega (arith, left)) (omega (arith, left, right, more)) from (omega (arith, some)) to here there,

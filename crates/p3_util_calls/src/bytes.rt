@@ -1,7 +1,7 @@
 //! In places of how many bytes a list is reversed. The package takes most lists as bytes, since it has instances of the kernels
 //! for each usual size of an item, and not for each type.
 
-ghost use Rattle.std.specs.Prelude.{◌≡◌, ℕ, ◌*◌, ◌/◌, ◌%◌, ◌^◌, ◌<◌, IfErr, IfOk};
+ghost use Rattle.std.specs.Prelude.{◌≡◌, ℕ, ◌*◌, ◌/◌, ◌%◌, ◌^◌, ◌<◌};
 ghost use Rattle.p3_util_kernels.specs.Reversal.{FitsRows};
 ghost use Rattle.p3_util_calls.specs.declared.parts.RowPairs.{RowPairs};
 ghost use Rattle.p3_util_calls.specs.declared.parts.reversal.ReversalPlan.TheVariants.{Patches, Whole};
@@ -9,7 +9,7 @@ ghost use Rattle.p3_util_calls.specs.Plans.{IsCutAsAsked, IsReversalPlan, width_
 ghost use Rattle.p3_util_kernels.specs.declared.grid.TheConstants.{TILE};
 
 use crate::choice::LONG_BYTES;
-use crate::parts::{Part, ReversalPlan, RowPairs};
+use crate::parts::{Part, ReversalPlan, RowPairs, Work};
 
 /// The instances that a build has. Only the time depends on them.
 pub(crate) trait Instances {
@@ -85,14 +85,8 @@ pub(crate) trait ByteInstances: Sized {
     /// The pairs of patch `number` were exchanged, in the list of places of `place` bytes each.
     ghost exchanged: { (place : ℕ) → RowPairs → (number : ℕ) → Self → Self.Done → Type 0 };
 
-    /// Reverses rows of `row` bytes each if there is an instance for places of this size. Otherwise the list is returned.
-    fn reverse_places(self, row: usize) -> Result<Self::Done, Self>
-        requires { FitsRows (len self) row }
-        ensures done { IfOk result (λ done. reversed row self done) }
-        ensures left { IfErr result (λ list. list ≡ self) };
-
-    /// Reverses rows of `row` bytes each as runs of bytes.
-    fn reverse_runs(self, row: usize) -> Self::Done
+    /// Reverses rows of `row` bytes each by index bits.
+    fn reverse(self, row: usize) -> Self::Done
         requires { FitsRows (len self) row }
         ensures { reversed row self result };
 
@@ -102,18 +96,6 @@ pub(crate) trait ByteInstances: Sized {
         requires all { len self / place * place ≡ len self }
         requires plan { IsReversalPlan (len self / place) (Patches patch.plan) }
         ensures { exchanged place patch.plan patch.number self result };
-}
-
-/// Reverses the order of rows of `row` bytes each by index bits.
-#[inline(always)]
-pub(crate) fn reverse_rows<I: ByteInstances>(list: I, row: usize) -> I::Done
-    requires { FitsRows (I.len list) row }
-    ensures { I.reversed row list result }
-{
-    match list.reverse_places(row) {
-        Ok(done) => done,
-        Err(list) => list.reverse_runs(row),
-    }
 }
 
 /// Makes the exchanges of a part, in the list of places of `place` bytes each.
@@ -131,8 +113,8 @@ pub(crate) fn reverse_part<I: ByteInstances>(
     ensures whole { (len width : ℕ) → part.plan ≡ Whole len width → I.reversed (width * place) list result }
     ensures patch { (pairs : RowPairs) → part.plan ≡ Patches pairs → I.exchanged place pairs part.number list result }
 {
-    match part.patch() {
-        Ok(patch) => list.exchange(place, patch),
-        Err(row_width) => reverse_rows(list, row_width * place),
+    match part.work() {
+        Work::Patch(patch) => list.exchange(place, patch),
+        Work::Rows(row_width) => list.reverse(row_width * place),
     }
 }

@@ -5,8 +5,8 @@
 //! of lines begin in different rows of the matrix. The first and the last row of lines have the parts of lines at the ends of
 //! the columns.
 
-ghost use Rattle.std.specs.Prelude.{◌≡◌, ℕ, ◌+◌, ◌^◌, ◌<◌, ◌≤◌, List};
-ghost use Rattle.p3_util_calls.specs.Lines.{IsPutTo, cells_before, items_to, limit};
+ghost use Rattle.std.specs.Prelude.{◌≡◌, ℕ, ◌+◌, ◌^◌, ◌<◌, ◌≤◌};
+ghost use Rattle.p3_util_calls.specs.Lines.{IsRowPut, cells_before, limit};
 ghost use Rattle.p3_util_kernels.specs.Region.{IsReady, IsRegionTransposed, items_of, rows_of};
 
 use p3_util_kernels::kernel::{
@@ -49,24 +49,24 @@ impl Lines {
     }
 
     /// The row to which column `col` of `region` is put, if each column is put as far as `rows` rows after the line of its
-    /// first cell begins. `skew` is the number of cells by which the next column begins later in its line.
+    /// first cell begins. The next column begins `step` cells later in its line.
     #[inline(always)]
-    fn limit(self, region: Region, skew: usize, rows: usize, col: usize) -> usize
+    fn limit(self, region: Region, step: usize, rows: usize, col: usize) -> usize
         requires { region.row_start ≤ region.row_end }
-        ensures { result ≡ limit region self.cells self.before skew rows col }
+        ensures { result ≡ limit region self.cells self.before step rows col }
     {
         let first = self.before.wrapping_add(region.row_start);
-        let before = first.wrapping_add(col.wrapping_mul(skew)) & (self.cells - 1);
+        let before = first.wrapping_add(col.wrapping_mul(step)) & (self.cells - 1);
         region.row_start + region.rows().min(rows.saturating_sub(before))
     }
 
     /// As many cells, or fewer, come before the first cell of a column of `region` in the line of that cell.
     #[inline(always)]
-    fn most_before(self, region: Region, skew: usize) -> usize
-        ensures most { (x : ℕ) → cells_before region.row_start self.cells self.before skew x ≤ result }
+    fn most_before(self, region: Region, step: usize) -> usize
+        ensures most { (x : ℕ) → cells_before region.row_start self.cells self.before step x ≤ result }
         ensures few { result ≤ self.cells }
     {
-        if skew == 0 {
+        if step == 0 {
             // All columns begin at the same cell of a line.
             return self.before.wrapping_add(region.row_start) & (self.cells - 1);
         }
@@ -124,8 +124,7 @@ impl PutRegion for Lines {
 }
 
 /// Puts a region by these lines in one panel: its rows of lines from top to bottom, each from left to right. In the rows of
-/// lines at the top and at the bottom, a column may have a part of a line. There each column is put by itself, or all columns
-/// are put column after column, if they begin at the same cell of a line.
+/// lines at the top and at the bottom, a column may have a part of a line.
 #[derive(Clone, Copy)]
 struct Panel(Lines);
 
@@ -141,35 +140,61 @@ impl PutRegion for Panel {
         if region.row_end > MOST_ROWS || region.col_start == region.col_end {
             return Outlined(Columns).put(out, matrix, region);
         }
-        let skew = matrix.height & (lines.cells - 1);
-        let most = lines.most_before(region, skew);
+        let step = matrix.height & (lines.cells - 1);
+        let most = lines.most_before(region, step);
         let mut out = out;
-        let mut done = 0;
-        while done < region.rows() + most {
-            let next = done + lines.cells;
-            if most <= done && next <= region.rows() {
-                out = put_row(out, matrix, region, lines, skew, done);
-            } else if skew == 0 {
-                let from = lines.limit(region, skew, done, region.col_start);
-                let to = lines.limit(region, skew, next, region.col_start);
-                out = Outlined(Columns).put(out, matrix, region.with_rows(from, to));
+        let mut rows_done = 0;
+        while rows_done < region.rows() + most {
+            let next = rows_done + lines.cells;
+            if most <= rows_done && next <= region.rows() {
+                out = put_row(out, matrix, region, lines, step, rows_done);
             } else {
-                for col in region.col_start..region.col_end {
-                    let from = lines.limit(region, skew, done, col);
-                    let to = lines.limit(region, skew, next, col);
-                    if from < to {
-                        let part = region.with_rows(from, to).with_cols(col, col + 1);
-                        out = put_as_block(out, matrix, part);
-                    }
-                }
+                out = put_edge_row(out, matrix, region, lines, step, rows_done);
             }
-            done = next;
+            rows_done = next;
         }
         out
     }
 }
 
-/// Puts a row of lines that are whole in every column. Each column is put as far as `done` rows after the line of its first
+/// Puts the first or the last row of lines, in which a column may have a part of a line or none. If all columns begin at the same
+/// cell of a line, they are put column after column.
+#[inline(always)]
+fn put_edge_row<M: Blocked, R: Ahead<Item = M::Item> + Copy>(
+    out: M,
+    matrix: Matrix<R>,
+    region: Region,
+    lines: Lines,
+    step: usize,
+    rows_done: usize,
+) -> M
+    requires fits { rows_done + lines.cells < 2 ^ 64 }
+    requires some_cols { region.col_start < region.col_end }
+    requires ready { IsReady region matrix.width matrix.height
+        (R.items matrix.source) (M.items out) }
+    ensures { IsRowPut region lines.cells lines.before step rows_done matrix.width matrix.height
+        (R.items matrix.source) (M.items out) (M.items result)
+        (λ n old. M.same_holder n old out) (λ n old. M.same_holder n old result) }
+{
+    let next = rows_done + lines.cells;
+    if step == 0 {
+        let from = lines.limit(region, step, rows_done, region.col_start);
+        let to = lines.limit(region, step, next, region.col_start);
+        return Outlined(Columns).put(out, matrix, region.with_rows(from, to));
+    }
+    let mut out = out;
+    for col in region.col_start..region.col_end {
+        let from = lines.limit(region, step, rows_done, col);
+        let to = lines.limit(region, step, next, col);
+        if from < to {
+            let part = region.with_rows(from, to).with_cols(col, col + 1);
+            out = put_as_block(out, matrix, part);
+        }
+    }
+    out
+}
+
+/// Puts a row of lines that are whole in every column. Each column is put as far as `rows_done` rows after the line of its first
 /// cell begins, and is put one line further.
 #[inline(never)]
 fn put_row<M: Blocked, R: Ahead<Item = M::Item> + Copy>(
@@ -177,30 +202,23 @@ fn put_row<M: Blocked, R: Ahead<Item = M::Item> + Copy>(
     matrix: Matrix<R>,
     region: Region,
     lines: Lines,
-    skew: usize,
-    done: usize,
+    step: usize,
+    rows_done: usize,
 ) -> M
     requires few_rows { region.row_end ≤ MOST_ROWS }
     requires ready { IsReady region matrix.width matrix.height
         (R.items matrix.source) (M.items out) }
-    requires from { (x : ℕ) → cells_before region.row_start lines.cells lines.before skew x ≤ done }
-    requires to { done + lines.cells ≤ rows_of region }
-    ensures put { (old : List M.Item)
-        → IsPutTo region (limit region lines.cells lines.before skew done)
-        matrix.width matrix.height (R.items matrix.source) old (M.items out)
-        → IsPutTo region (limit region lines.cells lines.before skew (done + lines.cells))
-        matrix.width matrix.height (R.items matrix.source) old (M.items result) }
-    ensures holder { (old : M)
-        → M.same_holder (items_to region (limit region lines.cells lines.before skew done))
-        old out
-        → M.same_holder (items_to region (limit region lines.cells lines.before skew (done + lines.cells)))
-        old result }
+    requires from { (x : ℕ) → cells_before region.row_start lines.cells lines.before step x ≤ rows_done }
+    requires to { rows_done + lines.cells ≤ rows_of region }
+    ensures { IsRowPut region lines.cells lines.before step rows_done matrix.width matrix.height
+        (R.items matrix.source) (M.items out) (M.items result)
+        (λ n old. M.same_holder n old out) (λ n old. M.same_holder n old result) }
 {
     let mut out = out;
-    let next = region.row_start + done + lines.cells;
+    let next = region.row_start + rows_done + lines.cells;
     let mut col = region.col_start;
-    if skew == 0 {
-        let from = lines.limit(region, skew, done, col);
+    if step == 0 {
+        let from = lines.limit(region, step, rows_done, col);
         while lines.cells <= region.col_end - col {
             let end = col + lines.cells;
             lines.expect_rows(matrix, region, next, col, end);
@@ -213,7 +231,7 @@ fn put_row<M: Blocked, R: Ahead<Item = M::Item> + Copy>(
     }
     while col < region.col_end {
         lines.expect_row(matrix, region, next, col);
-        let from = lines.limit(region, skew, done, col);
+        let from = lines.limit(region, step, rows_done, col);
         let line = region
             .with_rows(from, from + lines.cells)
             .with_cols(col, col + 1);

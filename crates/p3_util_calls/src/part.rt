@@ -6,8 +6,8 @@ ghost use Rattle.p3_util_calls.specs.Interleaved.{region_of};
 ghost use Rattle.p3_util_calls.specs.Plans.{IsPartMade, IsReversalPlan};
 
 use crate::calls::{Output, reverse_rows, transpose_region};
+use crate::parts::{Part, ReversalPlan, TransposePlan, Work};
 use p3_util_kernels::kernel::{Ahead, Tiled};
-use crate::parts::{Part, ReversalPlan, TransposePlan};
 
 /// Puts the region of a part.
 #[inline(never)]
@@ -34,10 +34,10 @@ pub(crate) fn reverse_part<M: Tiled>(items: M, part: Part<ReversalPlan>) -> M
     ensures { IsPartMade part.plan part.number (M.items items) (M.items result)
         (λ n. M.same_holder n items result) }
 {
-    match part.patch() {
-        Ok(patch) => patch.exchange(items),
+    match part.work() {
+        Work::Patch(patch) => patch.exchange(items),
         // In this arm, the compiler knows that a row is one item.
-        Err(1) => reverse_rows(items, 1),
-        Err(row_width) => reverse_rows(items, row_width),
+        Work::Rows(1) => reverse_rows(items, 1),
+        Work::Rows(row_width) => reverse_rows(items, row_width),
     }
 }

@@ -11,8 +11,7 @@
 //! parts together have the effect of the call, however their steps are interleaved.
 
 ghost use Rattle.std.specs.Prelude.{length, ◌≡◌, ℕ, ◌+◌, ◌-◌, ◌*◌, ◌/◌, ◌%◌, ◌^◌, ◌<◌, ◌≤◌, ◌==◌, if◌then◌else◌, max};
-ghost use Rattle.p3_util_calls.specs.Patches.{IsPatch, IsPatchExchanged, patches_of};
-ghost use Rattle.p3_util_kernels.specs.Crossing.{HoldsRows};
+ghost use Rattle.p3_util_calls.specs.Patches.{IsPatch, patches_of};
 ghost use Rattle.p3_util_calls.specs.Parts.{FollowEachOther, IsLeastPartLen, number_of_pair, pairs_of, parts_in, start_of};
 ghost use Rattle.p3_util_kernels.specs.Reversal.{FitsRows};
 
@@ -25,9 +24,9 @@ mod transpose;
 pub(crate) use asked::{one_part_items, ranges_if_cut};
 pub(crate) use lists::{PartToRun, PartsToRun, Shared};
 pub(crate) use numbers::Part;
-use p3_util_kernels::kernel::{RowDigits, TILE, Tiled, exchange_quadrants, exchange_region, pow2};
+use p3_util_kernels::kernel::{RowDigits, TILE, pow2};
 use p3_util_kernels::transpose::Region;
-pub(crate) use reversal::ReversalPlan;
+pub(crate) use reversal::{ReversalPlan, Work};
 pub(crate) use transpose::TransposePlan;
 
 /// The numbers below `len`, cut into parts of `part_len` consecutive numbers. The last part may
@@ -95,8 +94,10 @@ impl Cut {
         ensures number { number_of_pair (parts_in self.len self.part_len) result.0 result.1 ≡ number }
     {
         let count = self.count();
-        let number = self.pairs() - 1 - number;
-        let (distance, start) = (number / count, number % count);
+        // Pair `back`, counted from the last, is part `start` with the one `distance` further on in the circle. At distance 0 are
+        // the pairs of a part with itself, so these come last.
+        let back = self.pairs() - 1 - number;
+        let (distance, start) = (back / count, back % count);
         let end = (start + distance) % count;
         (start.min(end), start.max(end))
     }
@@ -134,13 +135,6 @@ impl RowPairs {
         RowPairs { rows, cut }
     }
 
-    /// The number of patches that are on the diagonal of their grid or above it.
-    fn patches(self) -> usize
-        ensures { result ≡ patches_of self.rows.digits self.cut.part_len }
-    {
-        self.cut.pairs() * pow2(self.rows.digits % 2)
-    }
-
     /// Patch `number`: the middle part of the indices of the rows of its grid, and its rows and
     /// columns in that grid. The patches on the diagonals come last. They have half as many pairs as
     /// the others.
@@ -159,21 +153,5 @@ impl RowPairs {
             col_end,
         };
         (number % grids, region)
-    }
-
-    /// Exchanges the two rows of each pair in patch `number`.
-    pub(crate) fn exchange_patch<M: Tiled>(self, m: M, number: usize) -> M
-        requires below { number < patches_of self.rows.digits self.cut.part_len }
-        requires ready { HoldsRows self.rows.width self.rows.digits (M.items m) }
-        ensures { IsPatchExchanged self.rows.digits self.rows.width self.cut.part_len number
-            (M.items m) (M.items result) (λ n. M.same_holder n m result) }
-    {
-        let (middle, region) = self.patch(number);
-        let grid = self.rows.grid(middle);
-        if region.row_start == region.col_start {
-            exchange_quadrants(m, grid, region.row_start, region.rows())
-        } else {
-            exchange_region(m, grid, region)
-        }
     }
 }

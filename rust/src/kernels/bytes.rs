@@ -3,7 +3,7 @@
 //! for each usual size of an item, and not for each type.
 
 use crate::kernels::choice::LONG_BYTES;
-use crate::kernels::parts::{Part, ReversalPlan, RowPairs};
+use crate::kernels::parts::{Part, ReversalPlan, RowPairs, Work};
 
 /// The instances that a build has. Only the time depends on them.
 pub(crate) trait Instances {
@@ -56,23 +56,11 @@ pub(crate) fn plan_in_bytes<I: Instances>(
 pub(crate) trait ByteInstances: Sized {
     type Done;
 
-    /// Reverses rows of `row` bytes each if there is an instance for places of this size. Otherwise the list is returned.
-    fn reverse_places(self, row: usize) -> Result<Self::Done, Self>;
-
-    /// Reverses rows of `row` bytes each as runs of bytes.
-    fn reverse_runs(self, row: usize) -> Self::Done;
+    /// Reverses rows of `row` bytes each by index bits.
+    fn reverse(self, row: usize) -> Self::Done;
 
     /// Exchanges the pairs of a patch, in the list of places of `place` bytes each.
     fn exchange(self, place: usize, patch: Part<RowPairs>) -> Self::Done;
-}
-
-/// Reverses the order of rows of `row` bytes each by index bits.
-#[inline(always)]
-pub(crate) fn reverse_rows<I: ByteInstances>(list: I, row: usize) -> I::Done {
-    match list.reverse_places(row) {
-        Ok(done) => done,
-        Err(list) => list.reverse_runs(row),
-    }
 }
 
 /// Makes the exchanges of a part, in the list of places of `place` bytes each.
@@ -82,8 +70,8 @@ pub(crate) fn reverse_part<I: ByteInstances>(
     place: usize,
     part: Part<ReversalPlan>,
 ) -> I::Done {
-    match part.patch() {
-        Ok(patch) => list.exchange(place, patch),
-        Err(row_width) => reverse_rows(list, row_width * place),
+    match part.work() {
+        Work::Patch(patch) => list.exchange(place, patch),
+        Work::Rows(row_width) => list.reverse(row_width * place),
     }
 }

@@ -11,13 +11,13 @@ use crate::kernels::choice::{
 use crate::kernels::lines::Lines;
 use crate::kernels::kernel::{
     Ahead, Blocked, Blocks, Columns, InCols, InRows, LARGE_MATRIX, Matrix, Order, Outlined,
-    PutRegion, RowDigits, ShortColumns, Tiled, UNIT, put_as_block, reverse_short,
+    PutRegion, RowDigits, ShortColumns, Tiled, UNIT, put_as_block,
 };
 use crate::kernels::places::{Cells, Source};
 use crate::kernels::transpose::Region;
 
 /// The bytes of a cache line.
-const LINE: usize = 64;
+pub(crate) const LINE: usize = 64;
 
 /// The cells of a call, and what the choice of a way depends on: first what a build has, and then what follows from it. Only the
 /// time depends on these constants.
@@ -75,8 +75,8 @@ pub(crate) trait Output: Blocked {
     }
 }
 
-/// Transposes a matrix. A user's crate has this, and without debug assertions puts columns itself, since a call would take as
-/// long. The calls have single arguments and no matrix, so that all are in registers and need no room on the stack.
+/// Transposes a matrix. This is inlined in a user's crate, and without debug assertions puts columns itself, since a call would
+/// take as long. The calls have single arguments and no matrix, so that all are in registers and need no room on the stack.
 #[inline(always)]
 pub(crate) fn transpose_whole<M: Output, R: Ahead<Item = M::Item> + Copy>(
     cells: M,
@@ -170,28 +170,40 @@ fn put_region<M: Output, R: Ahead<Item = M::Item> + Copy>(
     is_large: bool,
 ) -> M {
     let (size, width, height) = (M::SIZE, matrix.width, matrix.height);
-    let may_be_large = is_large || is_streamed(size);
-    if M::HAS_LINES && may_be_large && M::limits().fit(size, matrix, region, cells.address()) {
-        return put_by_lines(cells, matrix, region);
+    // At most `LARGE_MATRIX` items have the bytes of `Limits` only if they are long.
+    let may_be_streamed = is_large || is_streamed(size);
+    if M::HAS_LINES && may_be_streamed && M::limits().fit(size, matrix, region, cells.address()) {
+        return put_streamed(cells, matrix, region);
     }
     if M::IS_LONG {
-        return order_of(is_large, InRows::<UNIT, _, _>(LongColumns, LongColumns)).put(
-            cells, matrix, region,
-        );
+        let columns = InRows::<UNIT, _, _>(LongColumns, LongColumns);
+        return order_of(is_large, columns).put(cells, matrix, region);
     }
     if M::TESTS_INDICES {
         if let Some(blocks) = row_blocks_of(size, width, height) {
             return order_of(is_large, blocks).put(cells, matrix, region);
         }
     }
-    let is_far = !M::TESTS_INDICES && is_far(size, width, height);
+    put_by_strips(cells, matrix, region, is_large)
+}
+
+/// Puts a region by strips. If it `is_large`, it is put by leaves.
+#[inline(always)]
+fn put_by_strips<M: Output, R: Ahead<Item = M::Item> + Copy>(
+    cells: M,
+    matrix: Matrix<R>,
+    region: Region,
+    is_large: bool,
+) -> M {
+    let (size, width, height) = (M::SIZE, matrix.width, matrix.height);
+    let far = !M::TESTS_INDICES && is_far(size, width, height);
     // The side is a constant, so that an instance has no code for other squares.
     match M::SIDE {
-        4 => order_of(is_large, strips_of::<4>(size, is_far, width)).put(cells, matrix, region),
-        8 => order_of(is_large, strips_of::<8>(size, is_far, width)).put(cells, matrix, region),
+        4 => order_of(is_large, strips_of::<4>(size, far, width)).put(cells, matrix, region),
+        8 => order_of(is_large, strips_of::<8>(size, far, width)).put(cells, matrix, region),
         _ => {
-            let strips = strips_of::<1>(size, is_far, width);
-            if is_far && !is_large {
+            let strips = strips_of::<1>(size, far, width);
+            if far && !is_large {
                 return InCols::<FAR_COLUMNS, _, _>(strips, strips).put(cells, matrix, region);
             }
             order_of(is_large, strips).put(cells, matrix, region)
@@ -211,7 +223,7 @@ fn order_of<S: PutRegion>(is_large: bool, strips: S) -> Order<S> {
 
 /// Puts a region past the caches: by cache lines of the output, or in low strips.
 #[inline(never)]
-fn put_by_lines<M: Output, R: Ahead<Item = M::Item> + Copy>(
+fn put_streamed<M: Output, R: Ahead<Item = M::Item> + Copy>(
     cells: M,
     matrix: Matrix<R>,
     region: Region,
@@ -296,12 +308,6 @@ pub(crate) fn transpose_region<M: Output, R: Ahead<Item = M::Item> + Copy>(
     } else {
         put_region(cells, matrix, region, true)
     }
-}
-
-/// Reverses the order of items by index bits.
-#[inline(always)]
-pub(crate) fn reverse<M: Tiled>(items: M) -> M {
-    reverse_short(items)
 }
 
 /// Reverses the order of rows of `row_width` items by index bits.

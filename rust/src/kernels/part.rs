@@ -2,8 +2,8 @@
 //! What a part of a call does.
 
 use crate::kernels::calls::{Output, reverse_rows, transpose_region};
+use crate::kernels::parts::{Part, ReversalPlan, TransposePlan, Work};
 use crate::kernels::kernel::{Ahead, Tiled};
-use crate::kernels::parts::{Part, ReversalPlan, TransposePlan};
 
 /// Puts the region of a part.
 #[inline(never)]
@@ -18,10 +18,10 @@ pub(crate) fn transpose_part<M: Output, R: Ahead<Item = M::Item> + Copy>(
 
 /// Makes the exchanges of a part.
 pub(crate) fn reverse_part<M: Tiled>(items: M, part: Part<ReversalPlan>) -> M {
-    match part.patch() {
-        Ok(patch) => patch.exchange(items),
+    match part.work() {
+        Work::Patch(patch) => patch.exchange(items),
         // In this arm, the compiler knows that a row is one item.
-        Err(1) => reverse_rows(items, 1),
-        Err(row_width) => reverse_rows(items, row_width),
+        Work::Rows(1) => reverse_rows(items, 1),
+        Work::Rows(row_width) => reverse_rows(items, row_width),
     }
 }

@@ -20,9 +20,9 @@ mod transpose;
 pub(crate) use asked::{one_part_items, ranges_if_cut};
 pub(crate) use lists::{PartToRun, PartsToRun, Shared};
 pub(crate) use numbers::Part;
-use crate::kernels::kernel::{RowDigits, TILE, Tiled, exchange_quadrants, exchange_region, pow2};
+use crate::kernels::kernel::{RowDigits, TILE, pow2};
 use crate::kernels::transpose::Region;
-pub(crate) use reversal::ReversalPlan;
+pub(crate) use reversal::{ReversalPlan, Work};
 pub(crate) use transpose::TransposePlan;
 
 /// The numbers below `len`, cut into parts of `part_len` consecutive numbers. The last part may
@@ -66,8 +66,10 @@ impl Cut {
     /// of a part with itself come last.
     pub(crate) fn pair(self, number: usize) -> (usize, usize) {
         let count = self.count();
-        let number = self.pairs() - 1 - number;
-        let (distance, start) = (number / count, number % count);
+        // Pair `back`, counted from the last, is part `start` with the one `distance` further on in the circle. At distance 0 are
+        // the pairs of a part with itself, so these come last.
+        let back = self.pairs() - 1 - number;
+        let (distance, start) = (back / count, back % count);
         let end = (start + distance) % count;
         (start.min(end), start.max(end))
     }
@@ -93,11 +95,6 @@ impl RowPairs {
         RowPairs { rows, cut }
     }
 
-    /// The number of patches that are on the diagonal of their grid or above it.
-    fn patches(self) -> usize {
-        self.cut.pairs() * pow2(self.rows.digits % 2)
-    }
-
     /// Patch `number`: the middle part of the indices of the rows of its grid, and its rows and
     /// columns in that grid. The patches on the diagonals come last. They have half as many pairs as
     /// the others.
@@ -113,16 +110,5 @@ impl RowPairs {
             col_end,
         };
         (number % grids, region)
-    }
-
-    /// Exchanges the two rows of each pair in patch `number`.
-    pub(crate) fn exchange_patch<M: Tiled>(self, m: M, number: usize) -> M {
-        let (middle, region) = self.patch(number);
-        let grid = self.rows.grid(middle);
-        if region.row_start == region.col_start {
-            exchange_quadrants(m, grid, region.row_start, region.rows())
-        } else {
-            exchange_region(m, grid, region)
-        }
     }
 }

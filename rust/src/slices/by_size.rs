@@ -9,6 +9,7 @@
 
 use super::holders::{Bytes, Items, MOVES_BYTES, SliceItems, SliceSource, USES_REGISTERS, Vector};
 use crate::kernels::bytes::{self, ByteInstances, Instances, is_run};
+use crate::kernels::kernel::{Tiled, reverse_short};
 use crate::kernels::parts::{Part, ReversalPlan, RowPairs, TransposePlan};
 use crate::kernels::registers::{Pair, Two};
 use crate::kernels::{calls, part};
@@ -46,18 +47,31 @@ pub(super) fn reverse<F>(items: SliceItems<F>) {
     }
     by_size!(
         const { size_of::<F>() },
-        holder = items => super::reverse(holder),
-        _ => super::reverse(items)
+        holder = items => reverse_holder(holder),
+        _ => reverse_holder(items)
     );
 }
 
 #[inline(always)]
 pub(super) fn reverse_rows<F>(items: SliceItems<F>, row_width: usize) {
     if MOVES_BYTES {
-        reverse_rows_of_bytes(items.in_bytes(), row_width * size_of::<F>());
+        items.in_bytes().reverse(row_width * size_of::<F>());
     } else {
-        super::reverse_rows(items, row_width);
+        reverse_rows_of_holder(items, row_width);
     }
+}
+
+/// Reverses the order of items by index bits.
+#[inline(never)]
+fn reverse_holder(items: impl Tiled) {
+    let _ = reverse_short(items);
+}
+
+/// Reverses the order of rows by index bits. Not inlined, or [`ByteInstances::reverse`] would save registers even where it does
+/// not run this.
+#[inline(never)]
+fn reverse_rows_of_holder(items: impl Tiled, row_width: usize) {
+    let _ = calls::reverse_rows(items, row_width);
 }
 
 #[inline(always)]
@@ -105,21 +119,13 @@ type ByteList<'a> = SliceItems<'a, Bytes<1>>;
 impl ByteInstances for ByteList<'_> {
     type Done = ();
 
-    #[inline(always)]
-    fn reverse_places(self, row: usize) -> Result<(), Self> {
+    #[inline(never)]
+    fn reverse(self, row: usize) {
         by_size!(
             row,
-            holder = self => {
-                super::reverse(holder);
-                Ok(())
-            },
-            _ => Err(self)
-        )
-    }
-
-    #[inline(always)]
-    fn reverse_runs(self, row: usize) {
-        super::reverse_rows(self, row);
+            holder = self => reverse_holder(holder),
+            _ => reverse_rows_of_holder(self, row)
+        );
     }
 
     #[inline(always)]
@@ -130,12 +136,6 @@ impl ByteInstances for ByteList<'_> {
             _ => unreachable!("these items have kernels of their type")
         );
     }
-}
-
-/// Reverses the order of rows of `row` bytes each by index bits.
-#[inline(never)]
-fn reverse_rows_of_bytes(list: ByteList, row: usize) {
-    bytes::reverse_rows(list, row);
 }
 
 /// Makes the exchanges of a part, whose places have so many `bytes`.

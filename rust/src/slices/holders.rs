@@ -16,7 +16,7 @@ use bytes::{Unaligned, move_bytes, swap_bytes, write_item};
 pub(crate) use registers::USES_REGISTERS;
 pub(super) use registers::{Items, Vector};
 
-use crate::kernels::calls::Output;
+use crate::kernels::calls::{LINE, Output};
 use crate::kernels::kernel::{Ahead, Block, Blocked, Tiled};
 use crate::kernels::parts::Shared;
 use crate::kernels::places::{Cells, Places, Source};
@@ -32,9 +32,6 @@ mod cache;
 pub(super) mod registers;
 #[cfg(all(test, not(miri)))]
 mod tests;
-
-/// The bytes of a cache line.
-const LINE: usize = 64;
 
 /// The items of a slice, as places or as cells, for one kernel or for one part.
 ///

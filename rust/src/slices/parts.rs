@@ -24,7 +24,7 @@
 use core::fmt;
 use core::iter::FusedIterator;
 
-use super::{SliceItems, SliceSource, instances};
+use super::{SliceItems, SliceSource, instances, refuse_rows};
 use crate::kernels::bytes::plan_in_bytes;
 use crate::kernels::parts::{PartToRun, PartsToRun, ReversalPlan, TransposePlan, one_part_items, ranges_if_cut};
 use crate::kernels::reverse::fits_rows;
@@ -150,7 +150,7 @@ pub fn row_reversal<F: Send>(vals: &mut [F], row_width: usize, parts: usize) -> 
 pub(super) fn cut<F>(vals: &mut [F], row_width: usize, ranges: Option<usize>) -> ReversalParts<'_, F> {
     let len = vals.len();
     if !fits_rows(len, row_width) {
-        crate::refuse_rows(len, row_width);
+        refuse_rows(len, row_width);
     }
     let (bytes, plan) = plan_of(len, size_of::<F>(), row_width, ranges);
     ReversalParts(PartsToRun::of(SliceItems::in_shares(vals, len), plan, bytes))

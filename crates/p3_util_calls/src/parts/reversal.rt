@@ -1,17 +1,15 @@
 //! The parts that a reversal is cut into.
 
 ghost use Rattle.p3_util_calls.specs.Patches.{IsPatchExchanged, patches_of};
-ghost use Rattle.p3_util_calls.specs.declared.parts.RowPairs.{RowPairs};
-ghost use Rattle.p3_util_calls.specs.declared.parts.reversal.ReversalPlan.TheVariants.{Patches, Whole};
 ghost use Rattle.p3_util_kernels.specs.Crossing.{HoldsRows};
 ghost use Rattle.p3_util_calls.specs.Plans.{IsCutAsAsked, IsReversalPlan, parts_of, width_of};
 ghost use Rattle.p3_util_kernels.specs.Reversal.{FitsRows};
 ghost use Rattle.p3_util_kernels.specs.declared.grid.TheConstants.{TILE};
-ghost use Rattle.std.specs.Prelude.{◌≡◌, ℕ, IfErr, IfOk};
+ghost use Rattle.std.specs.Prelude.{◌≡◌};
 
 use crate::parts::RowPairs;
 use crate::parts::numbers::{Part, Plan};
-use p3_util_kernels::kernel::Tiled;
+use p3_util_kernels::kernel::{Tiled, exchange_quadrants, exchange_region, pow2};
 
 /// How the reversal of rows is cut.
 #[derive(Clone, Copy)]
@@ -58,21 +56,30 @@ impl Plan for RowPairs {
 
     /// The number of patches that are on the diagonal of their grid or above it.
     fn count(self) -> usize {
-        self.patches()
+        self.cut.pairs() * pow2(self.rows.digits % 2)
     }
 }
 
+/// What a part of a reversal has to do.
+#[derive(Drop)]
+pub(crate) enum Work {
+    /// The whole call. The number is that of the items of each row.
+    Rows(usize),
+    /// The pairs of one patch.
+    Patch(Part<RowPairs>),
+}
+
 impl Part<ReversalPlan> {
-    /// The part as a patch, if the reversal is cut. Otherwise the part is the call, and the error is the number of items of
-    /// each row.
-    pub(crate) fn patch(self) -> Result<Part<RowPairs>, usize>
-        ensures cut { IfOk result (λ patch. (self.plan ≡ Patches patch.plan) × (patch.number ≡ self.number)) }
-        ensures whole { IfErr result (λ width. (len : ℕ) × (self.plan ≡ Whole len width)) }
+    ghost use Rattle.p3_util_calls.specs.PartWork.{IsWorkOf};
+
+    /// What the part has to do.
+    pub(crate) fn work(self) -> Work
+        ensures { IsWorkOf self.plan self.number result }
     {
         let Part { plan, number } = self;
         match plan {
-            ReversalPlan::Whole(_, width) => Err(width),
-            ReversalPlan::Patches(pairs) => Ok(Part {
+            ReversalPlan::Whole(_, row_width) => Work::Rows(row_width),
+            ReversalPlan::Patches(pairs) => Work::Patch(Part {
                 plan: pairs,
                 number,
             }),
@@ -88,6 +95,12 @@ impl Part<RowPairs> {
             (M.items m) (M.items result) (λ n. M.same_holder n m result) }
     {
         let Part { plan, number } = self;
-        plan.exchange_patch(m, number)
+        let (middle, region) = plan.patch(number);
+        let grid = plan.rows.grid(middle);
+        if region.row_start == region.col_start {
+            exchange_quadrants(m, grid, region.row_start, region.rows())
+        } else {
+            exchange_region(m, grid, region)
+        }
     }
 }

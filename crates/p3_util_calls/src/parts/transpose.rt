@@ -27,7 +27,12 @@ impl TransposePlan {
     /// Cuts the longer side into at most `parts` parts, at multiples of `UNIT`. If
     /// `may_cut_rows` is false, the columns are cut, whichever side is longer. A `parts` of 0
     /// counts as 1. A matrix without items has no region.
-    pub(crate) fn new(width: usize, height: usize, parts: usize, may_cut_rows: bool) -> TransposePlan
+    pub(crate) fn new(
+        width: usize,
+        height: usize,
+        parts: usize,
+        may_cut_rows: bool,
+    ) -> TransposePlan
         requires { width * height < 2 ^ 64 }
         ensures width { result.width ≡ width }
         ensures height { result.height ≡ height }

@@ -3,7 +3,7 @@
 
 use crate::kernels::parts::RowPairs;
 use crate::kernels::parts::numbers::{Part, Plan};
-use crate::kernels::kernel::Tiled;
+use crate::kernels::kernel::{Tiled, exchange_quadrants, exchange_region, pow2};
 
 /// How the reversal of rows is cut.
 #[derive(Clone, Copy)]
@@ -41,18 +41,25 @@ impl Plan for ReversalPlan {
 impl Plan for RowPairs {
     /// The number of patches that are on the diagonal of their grid or above it.
     fn count(self) -> usize {
-        self.patches()
+        self.cut.pairs() * pow2(self.rows.digits % 2)
     }
 }
 
+/// What a part of a reversal has to do.
+pub(crate) enum Work {
+    /// The whole call. The number is that of the items of each row.
+    Rows(usize),
+    /// The pairs of one patch.
+    Patch(Part<RowPairs>),
+}
+
 impl Part<ReversalPlan> {
-    /// The part as a patch, if the reversal is cut. Otherwise the part is the call, and the error is the number of items of
-    /// each row.
-    pub(crate) fn patch(self) -> Result<Part<RowPairs>, usize> {
+    /// What the part has to do.
+    pub(crate) fn work(self) -> Work {
         let Part { plan, number } = self;
         match plan {
-            ReversalPlan::Whole(_, width) => Err(width),
-            ReversalPlan::Patches(pairs) => Ok(Part {
+            ReversalPlan::Whole(_, row_width) => Work::Rows(row_width),
+            ReversalPlan::Patches(pairs) => Work::Patch(Part {
                 plan: pairs,
                 number,
             }),
@@ -64,6 +71,12 @@ impl Part<RowPairs> {
     /// Exchanges the two rows of each pair in this patch.
     pub(crate) fn exchange<M: Tiled>(self, m: M) -> M {
         let Part { plan, number } = self;
-        plan.exchange_patch(m, number)
+        let (middle, region) = plan.patch(number);
+        let grid = plan.rows.grid(middle);
+        if region.row_start == region.col_start {
+            exchange_quadrants(m, grid, region.row_start, region.rows())
+        } else {
+            exchange_region(m, grid, region)
+        }
     }
 }

@@ -35,7 +35,9 @@ fn exchange_by_plan<const N: usize, const WIDTH: usize>(rows: &mut [[[u8; N]; WI
     fn exchange(places: impl Tiled, width: usize, parts: usize, is_cut: bool, number: usize) {
         let len = places.len();
         if is_cut {
-            let _ = RowPairs::new(len, width, parts).exchange_patch(places, number);
+            let mut left = PartsLeft::of(RowPairs::new(len, width, parts));
+            let patch = (0..=number).find_map(|k| left.hand_out().filter(|_| k == number));
+            let _ = patch.unwrap().exchange(places);
         } else {
             let _ = reverse_rows(places, RowDigits::of(len, width));
         }

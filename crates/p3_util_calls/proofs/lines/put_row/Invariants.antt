@@ -9,11 +9,11 @@ invariant-loop-col g l = record {
   from : l.region.col_start ≤ l.col;
   to : l.col ≤ l.region.col_end;
   same_length : length (g.M.Cells.items l.out) ≡ length (g.M.Cells.items l.fn.out);
-  put : (old : List _) → IsPutTo l.region (limit l.region l.lines.cells l.lines.before l.skew l.done) l.matrix.width l.matrix.height (g.R.Source.items l.matrix.source) old (g.M.Cells.items l.fn.out)
-      → IsPutTo l.region (ahead l.col (limit l.region l.lines.cells l.lines.before l.skew l.done) (limit l.region l.lines.cells l.lines.before l.skew (l.done + l.lines.cells)))
+  put : (old : List _) → IsPutTo l.region (limit l.region l.lines.cells l.lines.before l.step l.rows_done) l.matrix.width l.matrix.height (g.R.Source.items l.matrix.source) old (g.M.Cells.items l.fn.out)
+      → IsPutTo l.region (ahead l.col (limit l.region l.lines.cells l.lines.before l.step l.rows_done) (limit l.region l.lines.cells l.lines.before l.step (l.rows_done + l.lines.cells)))
       l.matrix.width l.matrix.height (g.R.Source.items l.matrix.source) old (g.M.Cells.items l.out);
-  holder : (old : _) → g.M.Cells.same_holder (items_to l.region (limit l.region l.lines.cells l.lines.before l.skew l.done)) old l.fn.out
-      → g.M.Cells.same_holder (items_to l.region (ahead l.col (limit l.region l.lines.cells l.lines.before l.skew l.done) (limit l.region l.lines.cells l.lines.before l.skew (l.done + l.lines.cells)))) old l.out;
+  holder : (old : _) → g.M.Cells.same_holder (items_to l.region (limit l.region l.lines.cells l.lines.before l.step l.rows_done)) old l.fn.out
+      → g.M.Cells.same_holder (items_to l.region (ahead l.col (limit l.region l.lines.cells l.lines.before l.step l.rows_done) (limit l.region l.lines.cells l.lines.before l.step (l.rows_done + l.lines.cells)))) old l.out;
 }
 
 abbrev pub decreases-loop-col : goal.decreases-loop-col
@@ -25,11 +25,11 @@ invariant-loop-col-2 g l = record {
   from : l.region.col_start ≤ l.col;
   to : l.col ≤ l.region.col_end;
   same_length : length (g.M.Cells.items l.out) ≡ length (g.M.Cells.items l.fn.out);
-  put : (old : List _) → IsPutTo l.region (limit l.region l.lines.cells l.lines.before l.skew l.done) l.matrix.width l.matrix.height (g.R.Source.items l.matrix.source) old (g.M.Cells.items l.fn.out)
-      → IsPutTo l.region (ahead l.col (limit l.region l.lines.cells l.lines.before l.skew l.done) (limit l.region l.lines.cells l.lines.before l.skew (l.done + l.lines.cells)))
+  put : (old : List _) → IsPutTo l.region (limit l.region l.lines.cells l.lines.before l.step l.rows_done) l.matrix.width l.matrix.height (g.R.Source.items l.matrix.source) old (g.M.Cells.items l.fn.out)
+      → IsPutTo l.region (ahead l.col (limit l.region l.lines.cells l.lines.before l.step l.rows_done) (limit l.region l.lines.cells l.lines.before l.step (l.rows_done + l.lines.cells)))
       l.matrix.width l.matrix.height (g.R.Source.items l.matrix.source) old (g.M.Cells.items l.out);
-  holder : (old : _) → g.M.Cells.same_holder (items_to l.region (limit l.region l.lines.cells l.lines.before l.skew l.done)) old l.fn.out
-      → g.M.Cells.same_holder (items_to l.region (ahead l.col (limit l.region l.lines.cells l.lines.before l.skew l.done) (limit l.region l.lines.cells l.lines.before l.skew (l.done + l.lines.cells)))) old l.out;
+  holder : (old : _) → g.M.Cells.same_holder (items_to l.region (limit l.region l.lines.cells l.lines.before l.step l.rows_done)) old l.fn.out
+      → g.M.Cells.same_holder (items_to l.region (ahead l.col (limit l.region l.lines.cells l.lines.before l.step l.rows_done) (limit l.region l.lines.cells l.lines.before l.step (l.rows_done + l.lines.cells)))) old l.out;
 }
 
 abbrev pub decreases-loop-col-2 : goal.decreases-loop-col-2

@@ -6,7 +6,7 @@ use Rattle.p3_util_kernels.specs.Grid.{square_at}
 use Rattle.p3_util_kernels.specs.Region.{rows_of}
 use Rattle.p3_util_calls.proofs.PatchesLemmas.{patch-above}
 use Rattle.p3_util_kernels.proofs.GridLemmas.Rows.{HoldsGrid-rows}
-use Rattle.p3_util_calls.proofs.parts.RowPairs.exchange_patch.Goals as goal
+use Rattle.p3_util_calls.proofs.parts.reversal.Part+RowPairs.exchange.Goals as goal
 
 -- the grid of a patch is one of those of the rows
 below : (digits part_len number middle : ℕ) (region : Region) → IsPatch digits part_len number middle region → middle < 2 ^ (digits - digits / 2 - digits / 2)
@@ -19,17 +19,17 @@ square region order start end = let size : region.row_start + rows_of region ≡
 
 pub exchange_quadrants-requires-clause-ready : goal.exchange_quadrants-requires-clause-ready
 exchange_quadrants-requires-clause-ready g c =
-    let digits = c.args.self.rows.digits in
+    let digits = c.args.self.plan.rows.digits in
     rw c.grid-grid.ensures
-    (HoldsGrid-rows (digits / 2) (digits - digits / 2) c.args.self.rows.width c.patch-middle.result.0 (omega arith) (below _ _ _ _ _ c.patch-middle.ensures)
-    digits _ (omega arith) c.requires.ready)
+    (HoldsGrid-rows (digits / 2) (digits - digits / 2) c.args.self.plan.rows.width c.patch-middle.result.0 (omega arith) (below _ _ _ _ _ c.patch-middle.ensures)
+    digits _ (omega arith) c.requires)
 
 pub exchange_region-requires-clause-ready : goal.exchange_region-requires-clause-ready
 exchange_region-requires-clause-ready g c =
-    let digits = c.args.self.rows.digits in
+    let digits = c.args.self.plan.rows.digits in
     rw c.grid-grid.ensures
-    (HoldsGrid-rows (digits / 2) (digits - digits / 2) c.args.self.rows.width c.patch-middle.result.0 (omega arith) (below _ _ _ _ _ c.patch-middle.ensures)
-    digits _ (omega arith) c.requires.ready)
+    (HoldsGrid-rows (digits / 2) (digits - digits / 2) c.args.self.plan.rows.width c.patch-middle.result.0 (omega arith) (below _ _ _ _ _ c.patch-middle.ensures)
+    digits _ (omega arith) c.requires)
 
 pub exchange_region-requires-clause-above : goal.exchange_region-requires-clause-above
-exchange_region-requires-clause-above g c = patch-above _ _ _ _ _ c.args.self.cut.some_part_len c.patch-middle.ensures c.if-region.false
+exchange_region-requires-clause-above g c = patch-above _ _ _ _ _ c.args.self.plan.cut.some_part_len c.patch-middle.ensures c.if-region.false
