@@ -534,8 +534,9 @@ fn put_squares<T, D: Register<T>, S: Loads<T, D>, M: Runs<T, D>>(
     store(cells, block.rows, to, load_columns(source, from));
 }
 
-/// Does what [`store`] does, for squares of 2 or 4 rows, in another order: the runs of a column are
-/// stored one right after the other.
+/// Does what [`store`] does, for squares of 2 or 4 rows, in another order. Run k is a part of column
+/// `k % side`, and the runs of a column are stored one right after the other: for 4 runs, first runs 0
+/// and 2, and then runs 1 and 3.
 #[inline(always)]
 fn store_columns<T, D: Register<T>, M: Runs<T, D>>(
     list: &mut M,
@@ -553,34 +554,36 @@ fn store_columns<T, D: Register<T>, M: Runs<T, D>>(
     ensures reach { M.reach list.new ≡ M.reach list.old }
     ensures holder { M.same_holder (count * D.SIDE) list.old list.new }
 {
-    let (a, b) = (four.a.halves(), four.b.halves());
-    let (c, d) = (four.c.halves(), four.d.halves());
+    let (run_0, run_1) = four.a.halves();
+    let (run_2, run_3) = four.b.halves();
+    let (run_4, run_5) = four.c.halves();
+    let (run_6, run_7) = four.d.halves();
     if side == 4 {
-        list.store(to[0], a.0);
-        list.store(to[4], c.0);
-        list.store(to[1], a.1);
-        list.store(to[5], c.1);
-        list.store(to[2], b.0);
-        list.store(to[6], d.0);
-        list.store(to[3], b.1);
-        list.store(to[7], d.1);
+        list.store(to[0], run_0);
+        list.store(to[4], run_4);
+        list.store(to[1], run_1);
+        list.store(to[5], run_5);
+        list.store(to[2], run_2);
+        list.store(to[6], run_6);
+        list.store(to[3], run_3);
+        list.store(to[7], run_7);
         return;
     }
     if count == 4 {
-        list.store(to[0], a.0);
-        list.store(to[2], b.0);
-        list.store(to[1], a.1);
-        list.store(to[3], b.1);
+        list.store(to[0], run_0);
+        list.store(to[2], run_2);
+        list.store(to[1], run_1);
+        list.store(to[3], run_3);
         return;
     }
-    list.store(to[0], a.0);
-    list.store(to[2], b.0);
-    list.store(to[4], c.0);
-    list.store(to[6], d.0);
-    list.store(to[1], a.1);
-    list.store(to[3], b.1);
-    list.store(to[5], c.1);
-    list.store(to[7], d.1);
+    list.store(to[0], run_0);
+    list.store(to[2], run_2);
+    list.store(to[4], run_4);
+    list.store(to[6], run_6);
+    list.store(to[1], run_1);
+    list.store(to[3], run_3);
+    list.store(to[5], run_5);
+    list.store(to[7], run_7);
 }
 
 /// Puts twice `D::SIDE` columns of a block, from column `col` on. All of them are read before one is

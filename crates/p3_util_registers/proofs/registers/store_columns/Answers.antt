@@ -12,14 +12,14 @@ returns-then-side-eq4-clause-stored g c =
     let more = AreRunsStored-more 8 g.D.Register.SIDE c.args.to apart by_fours by_twos (λ i h. omega arith) (λ i h. omega arith) (items_of_four g.D.Register.items c.args.four) in
     rw count
     (AreStored-runs 8 _ _ apart by_fours by_twos (λ i h. omega arith) (λ i h. omega arith) _ _ _ (λ i h. omega arith) (λ i h. omega arith)
-    (more 7 _ _ _ _ (omega arith) (second_half _ _ _ c.halves-d.ensures.second)
-    (more 6 _ _ _ _ (omega arith) (second_half _ _ _ c.halves-b.ensures.second)
-    (more 5 _ _ _ _ (omega arith) (first_half _ _ _ c.halves-d.ensures.first)
-    (more 4 _ _ _ _ (omega arith) (first_half _ _ _ c.halves-b.ensures.first)
-    (more 3 _ _ _ _ (omega arith) (second_half _ _ _ c.halves-c.ensures.second)
-    (more 2 _ _ _ _ (omega arith) (second_half _ _ _ c.halves-a.ensures.second)
-    (more 1 _ _ _ _ (omega arith) (first_half _ _ _ c.halves-c.ensures.first)
-    (more 0 _ _ _ _ (omega arith) (first_half _ _ _ c.halves-a.ensures.first)
+    (more 7 _ _ _ _ (omega arith) (second_half _ _ _ c.halves-run_6.ensures.second)
+    (more 6 _ _ _ _ (omega arith) (second_half _ _ _ c.halves-run_2.ensures.second)
+    (more 5 _ _ _ _ (omega arith) (first_half _ _ _ c.halves-run_6.ensures.first)
+    (more 4 _ _ _ _ (omega arith) (first_half _ _ _ c.halves-run_2.ensures.first)
+    (more 3 _ _ _ _ (omega arith) (second_half _ _ _ c.halves-run_4.ensures.second)
+    (more 2 _ _ _ _ (omega arith) (second_half _ _ _ c.halves-run_0.ensures.second)
+    (more 1 _ _ _ _ (omega arith) (first_half _ _ _ c.halves-run_4.ensures.first)
+    (more 0 _ _ _ _ (omega arith) (first_half _ _ _ c.halves-run_0.ensures.first)
     (AreRunsStored-none _ _ _ _ _) c.store.ensures.stored) c.store-then-side-eq4.ensures.stored) c.store-then-side-eq4-2.ensures.stored) c.store-then-side-eq4-3.ensures.stored) c.store-then-side-eq4-4.ensures.stored) c.store-then-side-eq4-5.ensures.stored) c.store-then-side-eq4-6.ensures.stored) c.store-then-side-eq4-7.ensures.stored))
 
 pub returns-then-count-eq4-clause-stored : goal.returns-then-count-eq4-clause-stored
@@ -29,10 +29,10 @@ returns-then-count-eq4-clause-stored g c =
     let more = AreRunsStored-more 4 g.D.Register.SIDE c.args.to apart by_twos_of_four by_twos_of_four (λ i h. omega arith) (λ i h. omega arith) (items_of_four g.D.Register.items c.args.four) in
     rw count
     (AreStored-runs 4 _ _ apart by_twos_of_four by_twos_of_four (λ i h. omega arith) (λ i h. omega arith) _ _ _ (λ i h. omega arith) (λ i h. omega arith)
-    (more 3 _ _ _ _ (omega arith) (second_half _ _ _ c.halves-b.ensures.second)
-    (more 2 _ _ _ _ (omega arith) (second_half _ _ _ c.halves-a.ensures.second)
-    (more 1 _ _ _ _ (omega arith) (first_half _ _ _ c.halves-b.ensures.first)
-    (more 0 _ _ _ _ (omega arith) (first_half _ _ _ c.halves-a.ensures.first)
+    (more 3 _ _ _ _ (omega arith) (second_half _ _ _ c.halves-run_2.ensures.second)
+    (more 2 _ _ _ _ (omega arith) (second_half _ _ _ c.halves-run_0.ensures.second)
+    (more 1 _ _ _ _ (omega arith) (first_half _ _ _ c.halves-run_2.ensures.first)
+    (more 0 _ _ _ _ (omega arith) (first_half _ _ _ c.halves-run_0.ensures.first)
     (AreRunsStored-none _ _ _ _ _) c.store-then-count-eq4.ensures.stored) c.store-then-count-eq4-2.ensures.stored) c.store-then-count-eq4-3.ensures.stored) c.store-then-count-eq4-4.ensures.stored))
 
 pub returns-clause-stored : goal.returns-clause-stored
@@ -42,14 +42,14 @@ returns-clause-stored g c =
     let more = AreRunsStored-more 8 g.D.Register.SIDE c.args.to apart by_twos by_fours (λ i h. omega arith) (λ i h. omega arith) (items_of_four g.D.Register.items c.args.four) in
     rw count
     (AreStored-runs 8 _ _ apart by_twos by_fours (λ i h. omega arith) (λ i h. omega arith) _ _ _ (λ i h. omega arith) (λ i h. omega arith)
-    (more 7 _ _ _ _ (omega arith) (second_half _ _ _ c.halves-d.ensures.second)
-    (more 6 _ _ _ _ (omega arith) (second_half _ _ _ c.halves-c.ensures.second)
-    (more 5 _ _ _ _ (omega arith) (second_half _ _ _ c.halves-b.ensures.second)
-    (more 4 _ _ _ _ (omega arith) (second_half _ _ _ c.halves-a.ensures.second)
-    (more 3 _ _ _ _ (omega arith) (first_half _ _ _ c.halves-d.ensures.first)
-    (more 2 _ _ _ _ (omega arith) (first_half _ _ _ c.halves-c.ensures.first)
-    (more 1 _ _ _ _ (omega arith) (first_half _ _ _ c.halves-b.ensures.first)
-    (more 0 _ _ _ _ (omega arith) (first_half _ _ _ c.halves-a.ensures.first)
+    (more 7 _ _ _ _ (omega arith) (second_half _ _ _ c.halves-run_6.ensures.second)
+    (more 6 _ _ _ _ (omega arith) (second_half _ _ _ c.halves-run_4.ensures.second)
+    (more 5 _ _ _ _ (omega arith) (second_half _ _ _ c.halves-run_2.ensures.second)
+    (more 4 _ _ _ _ (omega arith) (second_half _ _ _ c.halves-run_0.ensures.second)
+    (more 3 _ _ _ _ (omega arith) (first_half _ _ _ c.halves-run_6.ensures.first)
+    (more 2 _ _ _ _ (omega arith) (first_half _ _ _ c.halves-run_4.ensures.first)
+    (more 1 _ _ _ _ (omega arith) (first_half _ _ _ c.halves-run_2.ensures.first)
+    (more 0 _ _ _ _ (omega arith) (first_half _ _ _ c.halves-run_0.ensures.first)
     (AreRunsStored-none _ _ _ _ _) c.store-2.ensures.stored) c.store-3.ensures.stored) c.store-4.ensures.stored) c.store-5.ensures.stored) c.store-6.ensures.stored) c.store-7.ensures.stored) c.store-8.ensures.stored) c.store-9.ensures.stored))
 
 pub returns-then-side-eq4-clause-holder : goal.returns-then-side-eq4-clause-holder
