@@ -50,49 +50,6 @@ pub(super) fn transposed(width: usize, height: usize, place: usize) -> usize {
     place % height * width + place / height
 }
 
-/// A list of numbers that notes each place that a step changes.
-#[derive(Debug)]
-pub(super) struct Noted {
-    pub(super) items: Vec<usize>,
-    pub(super) places: Vec<usize>,
-}
-
-impl Noted {
-    /// The numbers below `len`, in order.
-    pub(super) fn numbered(len: usize) -> Self {
-        Noted {
-            items: (0..len).collect(),
-            places: Vec::new(),
-        }
-    }
-}
-
-impl Places for Noted {
-    type Item = usize;
-
-    fn len(&self) -> usize {
-        self.items.len()
-    }
-
-    fn exchange(&mut self, i: usize, j: usize) {
-        self.items.swap(i, j);
-        self.places.extend([i, j]);
-    }
-}
-
-impl Cells for Noted {
-    type Item = usize;
-
-    fn len(&self) -> usize {
-        self.items.len()
-    }
-
-    fn put(&mut self, i: usize, v: usize) {
-        self.items[i] = v;
-        self.places.push(i);
-    }
-}
-
 /// Makes the holder of a list that is tested.
 pub(super) trait Hold<'a, T> {
     type Holder: Tiled<Item = T>;
