@@ -5,7 +5,7 @@ use std::vec::Vec;
 
 use super::{one_part_reversal, ranges_if_cut, row_reversal, transpose};
 use crate::kernels::kernel::Tiled;
-use crate::kernels::parts::numbers::Plan;
+use crate::kernels::parts::numbers::{PartsLeft, Plan};
 use crate::kernels::parts::{RowPairs, TransposePlan};
 use crate::kernels::places::{SliceCells, SlicePlaces, SliceSource};
 use crate::kernels::reverse::{RowDigits, reverse_rows};
