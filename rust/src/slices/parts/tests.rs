@@ -1,89 +1,15 @@
-//! Runs each part on a holder that notes every place that a step changes. A part moves the items of its region, and no
-//! other part of the call changes one of its places.
+//! Runs each part of a call alone. It does what its plan says.
 
 use std::array::from_fn;
-use std::collections::BTreeSet;
 use std::vec::Vec;
 
 use super::{one_part_reversal, ranges_if_cut, row_reversal, transpose};
 use crate::kernels::kernel::Tiled;
-use crate::kernels::lines::Lines;
 use crate::kernels::parts::numbers::Plan;
-use crate::kernels::parts::{Cut, RowPairs, TransposePlan};
-use crate::kernels::places::{SliceCells, SlicePlaces, SliceSource, Writes};
+use crate::kernels::parts::{RowPairs, TransposePlan};
+use crate::kernels::places::{SliceCells, SlicePlaces, SliceSource};
 use crate::kernels::reverse::{RowDigits, reverse_rows};
-use crate::kernels::transpose::{Columns, Matrix, Order, PutRegion, Strips};
-use crate::slices::tests::Noted;
-
-/// Runs each part on its own list, which has the numbers below `len`. Checks that part `number` leaves
-/// `wanted(number, place)` at each place, and that no place is changed twice. Returns how many places are changed.
-fn check_parts(
-    len: usize,
-    count: usize,
-    run: impl Fn(&mut Noted, usize),
-    wanted: impl Fn(usize, usize) -> usize,
-) -> usize {
-    let mut places = BTreeSet::new();
-    for number in 0..count {
-        let mut noted = Noted::numbered(len);
-        run(&mut noted, number);
-        for (place, item) in noted.items.into_iter().enumerate() {
-            assert_eq!(item, wanted(number, place), "place {place} by part {number} of {count}");
-        }
-        for place in noted.places {
-            assert!(
-                places.insert(place),
-                "place {place} once more by part {number} of {count}"
-            );
-        }
-    }
-    places.len()
-}
-
-/// Checks the parts of the transpose of a matrix. Its items are the numbers from `len` on, so that each put changes its
-/// cell. The matrix is cut along its longer side, or always along its columns if `may_cut_rows` is false. It is put in every
-/// order, and by lines.
-fn check_matrix(width: usize, height: usize, parts: usize, may_cut_rows: bool) {
-    let len = width * height;
-    let input: Vec<usize> = (len..2 * len).collect();
-    let source = SliceSource::new(&input);
-    let strips = Strips::by_shape(Matrix::new(source, width, height));
-    let plan = TransposePlan::new(width, height, parts, may_cut_rows);
-    let by_rows = height > width && may_cut_rows;
-    let cut = Cut::new(if by_rows { height } else { width }, parts, 16);
-    let wanted = |number, place| {
-        let (x, y) = (place / height, place % height);
-        let (from, to) = cut.part(number);
-        let is_inside = (from..to).contains(if by_rows { &y } else { &x });
-        if is_inside { input[y * width + x] } else { place }
-    };
-    let count = |put: &dyn Fn(Writes<&mut Noted>, usize)| {
-        let put = |noted: &mut Noted, number| put(Writes::new(noted), number);
-        let puts = check_parts(len, plan.count(), put, wanted);
-        assert_eq!(puts, len, "{width} by {height} in {parts} parts");
-    };
-    count(&|noted, number| _ = Columns.put(noted, Matrix::new(source, width, height), plan.region(number)));
-    for order in [Order::Strips(strips), Order::Leaves(strips)] {
-        count(&|noted, number| _ = order.put(noted, Matrix::new(source, width, height), plan.region(number)));
-    }
-    let lines = Lines::new(8, width % 8);
-    count(&|noted, number| _ = lines.put(noted, Matrix::new(source, width, height), plan.region(number)));
-    assert_eq!((0..plan.count()).map(|number| plan.items(number)).sum::<usize>(), len);
-}
-
-#[test]
-fn regions_of_matrices() {
-    let small = (0..=40).flat_map(|width| (0..=40).map(move |height| (width, height)));
-    for (width, height) in small {
-        check_matrix(width, height, (width + height) % 5, width % 3 != 0);
-    }
-    for parts in 0..=9 {
-        for (width, height) in [(100, 3), (3, 100), (150, 40), (40, 150), (128, 64)] {
-            check_matrix(width, height, parts, true);
-            check_matrix(width, height, parts, false);
-        }
-    }
-}
+use crate::kernels::transpose::{Matrix, Order, PutRegion, Strips};
 
 /// Into how many ranges a side is cut at most, for a list that is cut.
 fn ranges(asked: usize) -> usize {
