@@ -17,14 +17,13 @@ SHAPES = """2x2 3x3 4x4 5x5 6x6 7x7 8x8 15x17 16x16 17x19 64x64 63x50 300x60 512
 # Columns and rows of matrices with long rows. Some are also in SHAPES.
 WIDE = """1024x2048 2048x1024 2048x2048 4096x512 4096x4096 8192x256 8192x1024 16384x128 16384x256 16384x100 32768x64 32768x100
     65536x20 65536x40 65536x100 131072x24 262144x12 6144x700 12288x300 20000x100 50000x37""".split()
-# What is measured on several threads. The rows have 8, 64 and 1024 items of 4 bytes, in lists of 2^19 and of 2^23 items.
+# What is measured on several threads.
 SHAPES_ON_THREADS = """256x256 512x512 64x4096 4096x64 1000x300 1024x1024 1023x1001 64x16384 16384x64 2048x1024 1024x2048
     300x4096 2048x2048 4096x1024 64x65536 65536x64 4096x4096 256x65536 16x1048576 1048576x16 3000x2000 100x65536""".split()
-ROWS_ON_THREADS = "32x65536 32x1048576 256x8192 256x131072 4096x512 4096x8192".split()
 # What is measured unless an option says otherwise, in general and by kind of build.
 DEFAULTS = {
     "": {"calls": CALLS, "items": ["1", "4", "8", "32"], "sizes": range(2, 23), "rows": ROWS, "shapes": SHAPES + WIDE},
-    "--parallel": {"calls": ["reverse", "transpose"], "sizes": range(14, 25), "rows": ROWS_ON_THREADS, "shapes": SHAPES_ON_THREADS},
+    "--parallel": {"calls": ["reverse", "transpose"], "sizes": range(14, 25), "shapes": SHAPES_ON_THREADS},
 }
 ALL = 2 ** 64
 # The calls that are summarized together: the call, how many items or rows it moves, and the shapes. A call may be in
@@ -42,11 +41,9 @@ GROUPS_ON_THREADS = {
     "reversals of up to 2^16 items": ("reverse", range(2 ** 16 + 1)),
     "reversals of 2^17 to 2^19 items": ("reverse", range(2 ** 17, 2 ** 20)),
     "reversals of 2^20 to 2^24 items": ("reverse", range(2 ** 20, ALL)),
-    "rows": ("rows", range(ALL)),
     "transposes of fewer than 2^18 items": ("transpose", range(2 ** 18)),
     "transposes of 2^18 items and more, but fewer than 2^22": ("transpose", range(2 ** 18, 2 ** 22)),
     "transposes of 2^22 items and more": ("transpose", range(2 ** 22, ALL)),
-    "all of these": ("", range(ALL)),
 }
 
 

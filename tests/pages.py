@@ -5,7 +5,7 @@ import os
 import re
 import subprocess
 
-from rattle_source import functions
+from rattle_source import declarations, functions
 from rattle_source import read as read_source
 
 # Names from std, the original, the kit and the system that pages mention and that no source has.
@@ -34,8 +34,22 @@ sources = {path: text for path, text in sources.items() if not re.search(r"/test
 
 
 @functools.cache
-def functions_of(path):
-    return list(functions(read_source(path)))
+def clauses():
+    """The names of the clauses of each function, by its own name, and by its path from its module, type or trait. The path of a
+    variant or of another item of a type or trait has none."""
+    found = {}
+    for path in sources:
+        module = os.path.basename(path)[:-len(".rt")]
+        for outer in declarations(read_source(path)):
+            owners = {module} if outer.kind == "fn" else {outer.name(), *re.findall(r" for &?(?:mut )?(\w+)", outer.head)}
+            for inner in [outer] if outer.kind == "fn" else declarations(outer.body):
+                for name in [inner.name(), *(f"{owner}::{inner.name()}" for owner in owners)]:
+                    found.setdefault(name, set()).update(inner.labels())
+            if outer.kind == "enum":
+                found.update({f"{outer.name()}::{variant}": set() for variant in re.findall(r"\w+", outer.body)})
+            elif outer.kind in ("impl", "struct", "trait"):
+                found.update({f"{owner}::": set() for owner in owners})
+    return found
 
 
 def place(page, start, text):
@@ -70,12 +84,10 @@ def check_quotations():
 
 def check_clauses():
     """The clauses that a row of MODEL names in parentheses are clauses of the calls that the row names."""
-    page, labels = "docs/MODEL.md", {}
-    for _, function in (found for path in sources for found in functions_of(path)):
-        labels.setdefault(function.name(), set()).update(function.labels())
+    page, labels = "docs/MODEL.md", clauses()
     for row in re.finditer(r"^\|([^|\n]*)\|([^|\n]*)\|$", pages[page], re.M):
         named = {label for brackets in re.findall(r"\((`[a-z_`, ]+`)\)", row.group()) for label in re.findall(r"\w+", brackets)}
-        calls = re.findall(r"(?<=`)(?:\w+::)?([a-z_]\w*)(?=`)", re.sub(r"\([^)]*\)", "", row.group(2)))
+        calls = re.findall(r"(?<=`)((?:\w+::)?[a-z_]\w*)(?=`)", re.sub(r"\([^)]*\)", "", row.group(2)))
         for call in (call for call in calls if named and call not in labels):
             yield place(page, row.start(), f"no source has a call {call}")
         for label in sorted(named - {label for call in calls for label in labels.get(call, ())}):
@@ -96,7 +108,8 @@ def check_links_and_names():
     words = {word for path in tracked if not path.endswith((".md", ".svg", ".tsv")) and path != "tests/pages.py"
              for word in re.findall(r"\w+", read(path))} | OUTSIDE
     words |= {os.path.basename(path)[:-len(".edit")] for path in tracked if path.endswith(".edit")}
-    paths = {"/" + "/".join(path.split("/")[:k]) for path in tracked for k in range(1, path.count("/") + 2)}
+    # A release has one more file.
+    paths = {"/" + "/".join(path.split("/")[:k]) for path in [*tracked, "docs/contracts.txt"] for k in range(1, path.count("/") + 2)}
     for page, text in pages.items():
         # Replaces blocks of code with blanks of the same length.
         text = re.sub(r"^```.*?^```", lambda block: re.sub(r"[^\n]", " ", block.group()), text, flags=re.M | re.S)
@@ -114,6 +127,9 @@ def check_links_and_names():
                 if not any(path.endswith("/" + code.rstrip("/")) for path in paths):
                     yield place(page, token.start(), f"no file {code}")
             elif page not in ELSEWHERE:
+                for owner, name in re.findall(r"(?<!\w)(?=([A-Z]\w*::)(\w+))", code):
+                    if owner in clauses() and owner + name not in clauses():
+                        yield place(page, token.start(), f"no {owner}{name}")
                 for name in re.findall(r"(?<!\w)[A-Za-z]\w*", code):
                     # A final N stands for the size of an item.
                     if len(name) > 3 and re.sub("_N$", "_8", name) not in words and not re.fullmatch("[0-9a-f]{16}", name):
@@ -124,7 +140,7 @@ def public_functions():
     """The public functions of the libraries and the public methods of their types: the path, the type or None, and the
     function. Those of laws.rt say what holds, and do nothing."""
     for path in (path for path in sources if re.match(r"crates/p3_util(_kernels)?/", path) and not path.endswith("/laws.rt")):
-        for outer, found in functions_of(path):
+        for outer, found in functions(read_source(path)):
             if found.seen_by == "pub" and (not outer or outer.kind == "impl" and " for " not in outer.head):
                 yield path, outer and outer.name(), found
 

@@ -1,10 +1,6 @@
-"""Writes docs/contracts.txt, which lists the contracts, and names the definitions.
+"""Prints the contracts and the names of the definitions. A release has this as docs/contracts.txt.
 
-    python3 tools/contract_list.py
-
-tests/agree compares the list with the sources. So each clause that is removed, that promises less or that requires more is a
-changed line of the list, and so is a definition that is removed. An axiom or a hole in a proof is not: `rt check` refuses both,
-in any file of specs/ or proofs/."""
+    python3 tools/contract_list.py"""
 import glob
 import re
 import sys
@@ -13,7 +9,6 @@ import textwrap
 sys.dont_write_bytecode = True
 from rattle_source import declarations, read
 
-LIST = "docs/contracts.txt"
 HEAD = """\
 # The public contracts of the crates on which code may rely, and the names of the definitions. docs/CALLING.md explains how to
 # read a contract, and docs/MODEL.md says in words what is promised. Crates of examples and tests are not listed, nor is what
@@ -25,9 +20,7 @@ HEAD = """\
 #
 # The contracts of a crate are followed by the files of its definitions, each with the names that it defines. The file has the
 # definitions, each with a comment that says the same in words. Below these are the crate's imports: the modules that the
-# names in its contracts come from. Your crate can import the same names, by `ghost use`.
-#
-# Written by: python3 tools/contract_list.py"""
+# names in its contracts come from. Your crate can import the same names, by `ghost use`."""
 CRATES = ["p3_util_kernels", "p3_util", "p3_util_run", "p3_util_c"]
 # The rows of marks and names of std that are too rare for docs/CALLING.md.
 MARKS = "tools/marks.txt"
@@ -123,5 +116,4 @@ def page():
 
 
 if __name__ == "__main__":
-    with open(LIST, "w", encoding="utf-8") as text:
-        print(page(), file=text)
+    print(page())

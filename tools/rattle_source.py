@@ -98,15 +98,6 @@ class Source:
         place = next((i for i in range(at, len(self.tokens)) if self.text(i) == text), None)
         return place or self.refuse(at, f"an item without its {text}")
 
-    def is_of_a_trait(self, at):
-        """Whether the innermost block around `at` is a trait that is public everywhere, or an impl of a trait."""
-        brace = max((i for i, end in self.partner.items() if i < at < end and self.text(i) == "{"), default=0)
-        before = max((i for i in self.partner if i < brace and self.text(i) in "{}"), default=0)
-        head = self.texts(before, brace)
-        if "trait" in head:
-            return ("pub", "(") not in zip(head, head[1:]) and "hidden" not in head
-        return "impl" in head and any(a == "for" and b != "<" for a, b in zip(head, head[1:]))
-
 
 # What stands before the kind of a declaration, and where its head ends.
 SEEN_BY = r'(?:(pub(?:\(\w+\))?) )?(?:const (?=fn)|extern "C" )?'

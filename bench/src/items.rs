@@ -96,60 +96,76 @@ struct Lists<T> {
     to: Vec<T>,
 }
 
+/// A method that makes the calls of the package with this name `times` times, in so many parts, one after the other, if there is a
+/// number of them.
+macro_rules! calls_by {
+    ($name:ident, $package:ident) => {
+        fn $name(&mut self, times: u32, parts: Option<usize>) {
+            match parts {
+                Some(parts) => self.repeat(
+                    times,
+                    |to, ()| $package::parts::reversal(to, parts).for_each(|part| part.run()),
+                    |to, width| $package::parts::row_reversal(to, width, parts).for_each(|part| part.run()),
+                    |to, (from, width, height)| {
+                        $package::parts::transpose(from, to, width, height, parts).for_each(|part| part.run())
+                    },
+                ),
+                None => self.repeat(
+                    times,
+                    |to, ()| $package::reverse_slice_index_bits(to),
+                    $package::reverse_slice_row_index_bits,
+                    |to, (from, width, height)| $package::transpose::transpose(from, to, width, height),
+                ),
+            }
+        }
+    };
+}
+
 impl<T: Item> Lists<T> {
     /// Makes the contender's call `times` times, each time on the result of the call before.
     fn run(&mut self, contender: Contender, times: u32) {
-        /// The call of the case by the package with this name, in parts, one after the other, if there is a number of them.
-        macro_rules! call_by {
-            ($package:ident, $parts:expr) => {
-                match $parts {
-                    Some(parts) => self.repeat(
-                        times,
-                        |to, ()| $package::parts::reversal(to, parts).for_each(|part| part.run()),
-                        |to, width| $package::parts::row_reversal(to, width, parts).for_each(|part| part.run()),
-                        |to, (from, width, height)| {
-                            $package::parts::transpose(from, to, width, height, parts).for_each(|part| part.run())
-                        },
-                    ),
-                    None => self.repeat(
-                        times,
-                        |to, ()| $package::reverse_slice_index_bits(to),
-                        $package::reverse_slice_row_index_bits,
-                        |to, (from, width, height)| $package::transpose::transpose(from, to, width, height),
-                    ),
-                }
-            };
-        }
+        let parts = self.case.parts;
         // The package's calls are here once. If there were two arms for them, the compiler would merge these, and would not
         // inline short calls any more.
         match contender {
             #[cfg(parallel)]
-            Contender::Proved => self.repeat(
-                times,
-                |to, ()| reverse(to),
-                reverse_rows,
-                |to, (from, width, height)| transpose(from, to, width, height),
-            ),
+            Contender::Proved => self.overlay(times),
             #[allow(unreachable_patterns, reason = "the arm above may have the first")]
             Contender::Proved | Contender::Call => {
-                call_by!(
-                    p3_util_proved,
-                    self.case.parts.filter(|_| contender == Contender::Proved)
-                )
+                self.package(times, parts.filter(|_| contender == Contender::Proved))
             }
             #[cfg(original)]
-            Contender::Original => self.repeat(
-                times,
-                |to, ()| p3_util::reverse_slice_index_bits(to),
-                |_, _| unreachable!("the original has no call for rows"),
-                |to, (from, width, height)| p3_util::transpose::transpose(from, to, width, height),
-            ),
+            Contender::Original => self.original(times),
             #[cfg(before)]
-            Contender::Before => call_by!(p3_util_before, self.case.parts),
+            Contender::Before => self.package_before(times, parts),
             Contender::Copy => repeat(times, &mut self.to, self.from.as_slice(), copy),
             #[cfg(not(all(original, before)))]
             _ => unreachable!("the benchmark was built without this contender"),
         }
+    }
+
+    calls_by!(package, p3_util_proved);
+    #[cfg(before)]
+    calls_by!(package_before, p3_util_before);
+
+    #[cfg(parallel)]
+    fn overlay(&mut self, times: u32) {
+        self.repeat(
+            times,
+            |to, ()| reverse(to),
+            reverse_rows,
+            |to, (from, width, height)| transpose(from, to, width, height),
+        )
+    }
+
+    #[cfg(original)]
+    fn original(&mut self, times: u32) {
+        self.repeat(
+            times,
+            |to, ()| p3_util::reverse_slice_index_bits(to),
+            |_, _| unreachable!("the original has no call for rows"),
+            |to, (from, width, height)| p3_util::transpose::transpose(from, to, width, height),
+        )
     }
 
     /// Makes the call of the case `times` times. It is one of these three.

@@ -3,6 +3,7 @@
 //! It puts the numbers into the order of reversed index bits, and then joins transforms of half the length in pairs.
 
 use p3_util_proved::{log2_strict_usize, reverse_slice_index_bits};
+// The package's own name. Your Cargo.toml may name it p3_util, as README shows, so that code for the original compiles.
 
 /// The prime `15 * 2^27 + 1`.
 const P: u64 = 2_013_265_921;

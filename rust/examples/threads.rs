@@ -11,6 +11,7 @@ use std::thread::{available_parallelism, scope};
 
 use p3_util_proved::parts::{self, ReversalPart, TransposePart};
 use p3_util_proved::{reverse_slice_index_bits, transpose::transpose};
+// The package's own name. Your Cargo.toml may name it p3_util, as README shows, so that code for the original compiles.
 
 /// Runs all parts on `threads` threads, and returns when they are done.
 fn run_all<P>(threads: usize, parts: impl Iterator<Item = P> + Send, run: fn(P)) {

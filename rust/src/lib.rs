@@ -2,6 +2,7 @@
 //!
 //! ```
 //! use p3_util_proved::{reverse_slice_index_bits, transpose::transpose};
+//! // The package's own name. Your Cargo.toml may name it p3_util, as README shows, so that code for the original compiles.
 //!
 //! let mut list = [0, 1, 2, 3, 4, 5, 6, 7];
 //! reverse_slice_index_bits(&mut list);
@@ -21,8 +22,7 @@
 //!
 //! The crate is `no_std` with `alloc` and starts no thread. With the feature `checked`, which is off by default, the
 //! kernels check each index of a slice, and the crate has no unsafe code. Results are the same. If one crate of a
-//! program enables the feature, cargo enables it for all. The line that README gives for `Cargo.toml` names this crate
-//! `p3_util`.
+//! program enables the feature, cargo enables it for all.
 #![no_std]
 #![cfg_attr(feature = "checked", forbid(unsafe_code))]
 #![cfg_attr(not(feature = "checked"), deny(unsafe_code))]
@@ -38,7 +38,7 @@ use alloc::string::String;
 use core::any::type_name;
 
 mod bits;
-/// The proved code. The contracts are in docs/contracts.txt of the repository and of a release.
+/// The proved code. The contracts are in docs/contracts.txt of a release, and in the repository beside the functions.
 ///
 /// Here a reversal or a transpose also takes a list of your own, by a *holder*: a value that gives access to a list by
 /// index. Calls that count tell you how many swaps or writes they make, and their contracts give the exact number.
@@ -133,8 +133,10 @@ pub use bits::{log2_strict_usize, log3_strict_usize, reverse_bits, reverse_bits_
 pub use kernels::chunks::apply_to_chunks;
 #[cfg(target_pointer_width = "64")]
 #[doc(inline)]
+#[doc(alias("rayon", "threads"))]
 pub use slices::parts;
 #[doc(inline)]
+#[doc(alias("bit_reversal", "bit_reverse_permutation", "matrix", "ntt", "reverse"))]
 pub use slices::{reverse_slice_index_bits, reverse_slice_row_index_bits};
 
 /// Does nothing, but a call compiles only if `T` is `Send`.

@@ -1,6 +1,5 @@
 //! What does not compile: types that do not meet the bounds of proved calls, and parts that would run twice or while
-//! their list is in use. Each block marked `compile_fail` would compile if one bound or one
-//! lifetime were missing.
+//! their list is in use. Each block marked `compile_fail` would compile if one bound or one lifetime were missing.
 //!
 //! ```
 //! use p3_util_proved::{assert_clone, zip_eq::ZipEq};
@@ -130,7 +129,8 @@
 //! part.run();
 //! ```
 //!
-//! As long as a value of one of these types exists, its list is borrowed. For a transpose, the input is borrowed too:
+//! As long as a part exists, its list cannot be used, not even read, and so while the iterator over the parts does, which has
+//! the same lifetime. The input of a transpose cannot be written:
 //!
 //! ```
 //! use p3_util_proved::parts::{reversal, transpose};
@@ -142,30 +142,12 @@
 //! output[0] = input[1];
 //! ```
 //!
-//! ```compile_fail,E0506
-//! use p3_util_proved::parts::transpose;
-//!
-//! let (mut input, mut output) = ([0, 1, 2, 3], [0; 4]);
-//! let parts = transpose(&input, &mut output, 2, 2, 2);
-//! output[0] = 7;
-//! parts.for_each(|part| part.run());
-//! ```
-//!
-//! ```compile_fail,E0506
-//! use p3_util_proved::parts::transpose;
-//!
-//! let (mut input, mut output) = ([0, 1, 2, 3], [0; 4]);
-//! let parts = transpose(&input, &mut output, 2, 2, 2);
-//! input[0] = 7;
-//! parts.for_each(|part| part.run());
-//! ```
-//!
-//! ```compile_fail,E0506
+//! ```compile_fail,E0503
 //! use p3_util_proved::parts::transpose;
 //!
 //! let (mut input, mut output) = ([0, 1, 2, 3], [0; 4]);
 //! let part = transpose(&input, &mut output, 2, 2, 2).next().unwrap();
-//! output[0] = 7;
+//! let read = output[0];
 //! part.run();
 //! ```
 //!
@@ -178,40 +160,17 @@
 //! part.run();
 //! ```
 //!
-//! ```compile_fail,E0506
-//! let mut list = [0, 1, 2, 3];
-//! let parts = p3_util_proved::parts::reversal(&mut list, 2);
-//! list[0] = 7;
-//! parts.for_each(|part| part.run());
-//! ```
-//!
-//! ```compile_fail,E0506
+//! ```compile_fail,E0503
 //! let mut list = [0, 1, 2, 3];
 //! let part = p3_util_proved::parts::reversal(&mut list, 2).next().unwrap();
-//! list[0] = 7;
+//! let read = list[0];
 //! part.run();
 //! ```
 //!
-//! ```compile_fail,E0506
+//! ```compile_fail,E0503
 //! let mut list = [0, 1, 2, 3];
 //! let part = p3_util_proved::parts::row_reversal(&mut list, 2, 2).next().unwrap();
-//! list[0] = 7;
-//! part.run();
-//! ```
-//!
-//! The list cannot be read either, and it cannot be cut again:
-//!
-//! ```compile_fail,E0502
-//! let mut list = [0, 1, 2, 3];
-//! let parts = p3_util_proved::parts::reversal(&mut list, 2);
-//! let sum: i32 = list.iter().sum();
-//! parts.for_each(|part| part.run());
-//! ```
-//!
-//! ```compile_fail,E0499
-//! let mut list = [0, 1, 2, 3];
-//! let part = p3_util_proved::parts::reversal(&mut list, 2).next().unwrap();
-//! let more_parts = p3_util_proved::parts::reversal(&mut list, 2);
+//! let read = list[0];
 //! part.run();
 //! ```
 //!

@@ -60,7 +60,6 @@ fn reverse_rows(items: impl Tiled, row_width: Index) {
 /// ```should_panic
 /// p3_util_proved::reverse_slice_index_bits(&mut [0, 1, 2, 3, 4, 5]);
 /// ```
-#[doc(alias = "reverse")]
 #[inline]
 #[track_caller]
 pub fn reverse_slice_index_bits<F: Send + Sync>(vals: &mut [F]) {
@@ -85,7 +84,6 @@ pub fn reverse_slice_index_bits<F: Send + Sync>(vals: &mut [F]) {
 /// # Panics
 ///
 /// If the length is not `row_width` times zero or a power of two. With a `row_width` of 0 the length must be 0.
-#[doc(alias = "reverse")]
 #[inline]
 #[track_caller]
 pub fn reverse_slice_row_index_bits<F>(vals: &mut [F], row_width: usize) {

@@ -1,6 +1,7 @@
 //! Transposes of matrices that are stored as flat slices, row after row.
 
 #[doc(inline)]
+#[doc(alias = "matrix")]
 pub use crate::slices::transpose;
 
 /// Panics with the original's message about the first length that is not `width * height`.

@@ -46,44 +46,6 @@ fn padded<const N: usize>(answers: &[Option<u8>], fill: u8) -> (Vec<[u8; N]>, us
     (pieces, asks.get())
 }
 
-/// Cuts lists of up to 20 numbers. There is one call of `next` for each number and one for the end.
-fn check_lengths<const N: usize>() {
-    for len in 0..=20 {
-        let numbers: Vec<u8> = (1..=len).collect();
-        let answers: Vec<Option<u8>> = numbers.iter().copied().map(Some).collect();
-        let filled = numbers.chunks(N).map(|piece| {
-            let mut filled = [99; N];
-            filled[..piece.len()].copy_from_slice(piece);
-            filled
-        });
-        let asks = numbers.len() + 1;
-        let cut: Vec<Vec<u8>> = numbers.chunks(N).map(<[u8]>::to_vec).collect();
-        assert_eq!(pieces::<N>(&answers), (cut, asks), "{len} by {N}");
-        assert_eq!(padded::<N>(&answers, 99), (filled.collect(), asks), "{len} by {N}");
-    }
-}
-
-/// An `apply_to_chunks` that calls the closure once more at the end, or calls `next` again, meets its contract, but
-/// fails this test.
-#[test]
-fn pieces_of_each_length() {
-    check_lengths::<1>();
-    check_lengths::<2>();
-    check_lengths::<3>();
-    check_lengths::<4>();
-    check_lengths::<5>();
-    check_lengths::<7>();
-    check_lengths::<20>();
-    check_lengths::<100>();
-}
-
-#[test]
-fn pieces_of_no_items() {
-    let answers = [Some(1), Some(2)];
-    assert_eq!(pieces::<0>(&answers), (vec![], 0));
-    assert_eq!(padded::<0>(&answers, 9), (vec![], 0));
-}
-
 /// A body that calls `next` again after a short piece, or calls the closure once more, fails this test.
 #[test]
 fn asks_no_more_after_the_first_none() {

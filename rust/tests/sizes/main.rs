@@ -146,8 +146,8 @@ fn rows() {
     }
 }
 
-/// These lists are one part each. Where a list is cut does not depend on the size of its items alone, and `cuts.rs` and
-/// `parts.rs` test it.
+/// These lists are one part each. Where a list is cut does not depend on the size of its items alone: `each_part_alone` of the
+/// package and `rust/tests/lists/parts.rs` test it.
 #[test]
 fn reversals_by_parts() {
     for of in SIZES {

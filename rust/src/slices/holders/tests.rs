@@ -2,4 +2,3 @@
 
 #[cfg(target_os = "linux")]
 mod guarded;
-mod handed_over;
