@@ -390,8 +390,9 @@ impl<T, D: Register<T>> Runs<T, D> for PastCaches<'_, T, D> {
         Runs::<T, D>::store(&mut self.0, place, run);
     }
 
-    /// Writes a register past the caches: its cache line is not read first. The function of `core::arch` would take a number.
-    /// No race detector sees assembly, so `rust/test` makes ordinary stores for one (`ordinary_stores`).
+    /// Writes a register past the caches: its cache line is not read first. `_mm_stream_si128` takes a number, whose bytes all have
+    /// to be written, and those of padding are not. No race detector sees assembly, so `rust/test` makes ordinary stores for one
+    /// (`ordinary_stores`).
     #[cfg(all(target_arch = "x86_64", target_feature = "sse2", not(ordinary_stores)))]
     #[inline(always)]
     fn stream(&mut self, place: usize, run: D::Half) {

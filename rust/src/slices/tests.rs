@@ -6,6 +6,8 @@
 use std::array::from_fn;
 use std::boxed::Box;
 use std::fmt::Debug;
+#[cfg(not(feature = "checked"))]
+use std::mem::MaybeUninit;
 #[cfg(any(debug_assertions, feature = "checked"))]
 use std::panic::{AssertUnwindSafe, catch_unwind};
 use std::vec::Vec;
@@ -24,7 +26,7 @@ use crate::kernels::places::{Cells, Places, Source};
 #[cfg(not(feature = "checked"))]
 use crate::kernels::registers::blocks::LinesOfCells;
 #[cfg(not(feature = "checked"))]
-use crate::kernels::registers::{Loads, Pair, Paired, Register, Runs, Single, Two};
+use crate::kernels::registers::{Loads, Pair, Paired, Register, Runs, Two};
 use crate::kernels::transpose::{Matrix, Strips, transpose_matrix, transpose_square};
 
 /// The strips of the package.
@@ -52,9 +54,16 @@ pub(super) fn transposed(width: usize, height: usize, place: usize) -> usize {
 
 /// Makes the holder of a list that is tested.
 pub(super) trait Hold<'a, T> {
-    type Holder: Tiled<Item = T>;
+    type Holder: Tiled;
 
     fn hold(list: &'a mut [T]) -> Self::Holder;
+}
+
+/// Makes the source for such a holder, too.
+pub(super) trait Put<T: Copy>: for<'a> Hold<'a, T, Holder: Blocked<Item = Self::Cell>> {
+    type Cell: Copy;
+
+    fn source(list: &[T]) -> SliceSource<'_, Self::Cell>;
 }
 
 /// The holder that makes single steps.
@@ -68,58 +77,33 @@ impl<'a, T: 'a> Hold<'a, T> for Singly {
     }
 }
 
-/// The registers of items of `N` bytes, for items of any type of this size.
+impl<T: Copy + 'static> Put<T> for Singly {
+    type Cell = T;
+
+    fn source(list: &[T]) -> SliceSource<'_, T> {
+        SliceSource::new(list)
+    }
+}
+
+/// The holder that transposes squares of items of `N` bytes in registers.
 #[cfg(not(feature = "checked"))]
-#[derive(Clone, Copy)]
-pub(super) struct Of<const N: usize>(Items<N>);
+pub(super) struct ByRegisters<const N: usize, D>(D);
 
 #[cfg(not(feature = "checked"))]
-impl<T, const N: usize> Register<T> for Of<N>
-where
-    Items<N>: Register<Bytes<N>>,
-{
-    type Half = <Items<N> as Register<Bytes<N>>>::Half;
+impl<'a, T: 'a, const N: usize, D: Register<Bytes<N>>> Hold<'a, T> for ByRegisters<N, D> {
+    type Holder = SliceItems<'a, Bytes<N>, D>;
 
-    const SIDE: usize = Items::<N>::SIDE;
-
-    fn low(self, other: Self) -> Self {
-        Of(self.0.low(other.0))
-    }
-
-    fn high(self, other: Self) -> Self {
-        Of(self.0.high(other.0))
-    }
-
-    fn from_half(first: Self::Half) -> Self {
-        Of(Items::from_half(first))
-    }
-
-    fn halves(self) -> (Self::Half, Self::Half) {
-        self.0.halves()
+    fn hold(list: &'a mut [T]) -> Self::Holder {
+        SliceItems::new(list).in_bytes().in_registers()
     }
 }
 
 #[cfg(not(feature = "checked"))]
-impl<T, const N: usize> Paired<T> for Of<N> where Items<N>: Register<Bytes<N>> {}
+impl<T: Copy + 'static, const N: usize, D: Register<Bytes<N>>> Put<T> for ByRegisters<N, D> {
+    type Cell = Bytes<N>;
 
-/// A register that is an item of 16 bytes, of any type of this size.
-#[cfg(not(feature = "checked"))]
-#[derive(Clone, Copy)]
-pub(super) struct Whole(#[allow(dead_code, reason = "it is only copied")] Vector);
-
-#[cfg(not(feature = "checked"))]
-impl<T> Single<T> for Whole {}
-
-/// The holder that transposes squares in registers.
-#[cfg(not(feature = "checked"))]
-pub(super) struct ByRegisters<D>(D);
-
-#[cfg(not(feature = "checked"))]
-impl<'a, T: 'a, D: Register<T>> Hold<'a, T> for ByRegisters<D> {
-    type Holder = SliceItems<'a, T, D>;
-
-    fn hold(list: &'a mut [T]) -> SliceItems<'a, T, D> {
-        SliceItems::new(list).in_registers()
+    fn source(list: &[T]) -> SliceSource<'_, Bytes<N>> {
+        SliceSource::new(list).in_bytes()
     }
 }
 
@@ -132,12 +116,12 @@ macro_rules! of_each_holder {
         }
         #[cfg(not(feature = "checked"))]
         of_each_holder!(@ $item, $hold => $statement,
-            1: Of<1>, 2: Pair<Of<2>>, 4: Pair<Of<4>>, 8: Pair<Of<8>>, 16: Two<Whole>);
+            1: Items<1>, 2: Pair<Items<2>>, 4: Pair<Items<4>>, 8: Pair<Items<8>>, 16: Two<Vector>);
     }};
     (@ $item:ty, $hold:ident => $statement:expr, $($bytes:literal: $rows:ty),*) => {
         match size_of::<$item>() {
             $($bytes if USES_REGISTERS => {
-                type $hold = ByRegisters<$rows>;
+                type $hold = ByRegisters<$bytes, $rows>;
                 $statement;
             })*
             _ => {}
@@ -213,47 +197,67 @@ fn leaves<T: Debug + PartialEq, H: for<'a> Hold<'a, T>>(
     }
 }
 
-/// Exchanges and transposes tiles of the items that `item` makes.
-fn turns_of_tiles<T: Debug + PartialEq, H: for<'a> Hold<'a, T>>(item: impl Fn(usize) -> T) {
-    // Row `number` of the 16 rows begins at `gap * number` places and 8 for each earlier row. They lie in a mixed order.
-    for gap in 0..3 {
+/// Two tiles in a list of `len` items. Each has eight rows of eight items.
+struct Tiles {
+    x: [usize; 8],
+    y: [usize; 8],
+    len: usize,
+}
+
+impl Tiles {
+    /// Row `number` of the 16 rows begins at `gap * number` places and 8 for each earlier row. They lie in a mixed order.
+    fn apart(gap: usize) -> Self {
         let start = |number: usize| (number * 7 % 16) * (8 + gap) + gap;
-        let (x, y) = (from_fn(start), from_fn(|row| start(8 + row)));
-        let within = |tile: [usize; 8], place: usize| {
-            let row = tile.iter().position(|start| (*start..start + 8).contains(&place))?;
-            Some((row, place - tile[row]))
-        };
-        let len = 16 * (8 + gap) + gap;
-        leaves::<T, H>(
-            len,
-            &item,
-            |mut places| places.exchange_tiles(x, y),
-            |place| match (within(x, place), within(y, place)) {
-                (Some((row, col)), _) => y[col] + row,
-                (_, Some((row, col))) => x[col] + row,
-                _ => place,
-            },
-        );
-        for tile in [x, y] {
-            leaves::<T, H>(
-                len,
-                &item,
-                |mut places| places.turn_tile(tile),
-                |place| within(tile, place).map_or(place, |(row, col)| tile[col] + row),
-            );
+        Tiles {
+            x: from_fn(start),
+            y: from_fn(|row| start(8 + row)),
+            len: 16 * (8 + gap) + gap,
         }
-        // A hint changes nothing, and may name any places.
-        let far = from_fn(|row| usize::MAX - row);
+    }
+
+    /// The mirror image in `to` of a place that is in `from`.
+    fn mirrored(from: [usize; 8], to: [usize; 8], place: usize) -> Option<usize> {
+        let row = from.iter().position(|start| (*start..start + 8).contains(&place))?;
+        Some(to[place - from[row]] + row)
+    }
+}
+
+fn exchanges_tiles<T: Debug + PartialEq, H: for<'a> Hold<'a, T>>(item: impl Fn(usize) -> T, tiles: &Tiles) {
+    let Tiles { x, y, len } = *tiles;
+    leaves::<T, H>(
+        len,
+        item,
+        |mut places| places.exchange_tiles(x, y),
+        |place| {
+            let image = Tiles::mirrored(x, y, place).or_else(|| Tiles::mirrored(y, x, place));
+            image.unwrap_or(place)
+        },
+    );
+}
+
+fn turns_tile<T: Debug + PartialEq, H: for<'a> Hold<'a, T>>(item: impl Fn(usize) -> T, tiles: &Tiles) {
+    for tile in [tiles.x, tiles.y] {
         leaves::<T, H>(
-            len,
+            tiles.len,
             &item,
-            |places| {
-                places.expect_tiles(x, y);
-                places.expect_tiles(far, far);
-            },
-            |place| place,
+            |mut places| places.turn_tile(tile),
+            |place| Tiles::mirrored(tile, tile, place).unwrap_or(place),
         );
     }
+}
+
+/// A hint may name any places.
+fn hint_changes_nothing<T: Debug + PartialEq, H: for<'a> Hold<'a, T>>(item: impl Fn(usize) -> T, tiles: &Tiles) {
+    let far = from_fn(|row| usize::MAX - row);
+    leaves::<T, H>(
+        tiles.len,
+        item,
+        |places| {
+            places.expect_tiles(tiles.x, tiles.y);
+            places.expect_tiles(far, far);
+        },
+        |place| place,
+    );
 }
 
 /// Transposes squares of the items that `item` makes.
@@ -274,7 +278,11 @@ fn turns_of_squares<T: Debug + PartialEq, H: for<'a> Hold<'a, T>>(item: impl Fn(
 
 fn turns<T: Debug + PartialEq + 'static>(item: impl Fn(usize) -> T) {
     of_each_holder!(T, Holder => {
-        turns_of_tiles::<T, Holder>(&item);
+        for tiles in [0, 1, 2].map(Tiles::apart) {
+            exchanges_tiles::<T, Holder>(&item, &tiles);
+            turns_tile::<T, Holder>(&item, &tiles);
+            hint_changes_nothing::<T, Holder>(&item, &tiles);
+        }
         turns_of_squares::<T, Holder>(&item);
     });
 }
@@ -382,19 +390,20 @@ fn puts_and_reads() {
 struct Aligned<T>([T; 600]);
 
 /// Puts a block by a holder.
-#[cfg(all(target_os = "linux", not(feature = "checked")))]
-pub(super) fn put_block<T: Copy, H: for<'a> Hold<'a, T, Holder: Blocked<Item = T>>>(
-    cells: &mut [T],
-    source: &[T],
-    block: Block,
-) {
-    H::hold(cells).put_block(&SliceSource::new(source), block);
+#[cfg(any(debug_assertions, all(target_os = "linux", not(feature = "checked"))))]
+pub(super) fn put_block<T: Copy, H: Put<T>>(cells: &mut [T], source: &[T], block: Block) {
+    H::hold(cells).put_block(&H::source(source), block);
 }
 
 /// Puts a block by a holder that stores whole lines past the caches.
 #[cfg(not(feature = "checked"))]
-pub(super) fn put_past_caches<T: Copy, D: Register<T>>(cells: &mut [T], source: &[T], block: Block) {
-    PastCaches(SliceItems::new(cells).in_registers::<D>()).put_block(&SliceSource::new(source), block);
+pub(super) fn put_past_caches<const N: usize, D: Register<Bytes<N>>>(
+    cells: &mut [[u8; N]],
+    source: &[[u8; N]],
+    block: Block,
+) {
+    let cells = PastCaches(SliceItems::new(cells).in_bytes().in_registers::<D>());
+    { cells }.put_block(&SliceSource::new(source).in_bytes(), block);
 }
 
 /// A block of this many rows is stored past the caches only if each of its columns is a line of the output. If it has one column,
@@ -402,9 +411,9 @@ pub(super) fn put_past_caches<T: Copy, D: Register<T>>(cells: &mut [T], source: 
 #[cfg(not(feature = "checked"))]
 #[test]
 fn blocks_of_lines() {
-    fn streams<T: Copy + Default, D: Register<T>>() {
-        let line = 64 / size_of::<T>();
-        let mut list = Aligned([T::default(); 600]);
+    fn streams<const N: usize, D: Register<Bytes<N>>>() {
+        let line = 64 / N;
+        let mut list = Aligned([[MaybeUninit::new(0); N]; 600]);
         for (to, height) in (0..=2 * line).flat_map(|to| (line - 2..=3 * line).map(move |height| (to, height))) {
             for cols in [1, 2, line] {
                 let (rows, from, width) = (line, 0, line);
@@ -423,9 +432,9 @@ fn blocks_of_lines() {
             }
         }
     }
-    streams::<u32, Pair<Of<4>>>();
-    streams::<u64, Pair<Of<8>>>();
-    streams::<u128, Two<Whole>>();
+    streams::<4, Pair<Items<4>>>();
+    streams::<8, Pair<Items<8>>>();
+    streams::<16, Two<Vector>>();
 }
 
 /// Transposes a matrix of the items that `item` makes by blocks, with each holder.
@@ -436,7 +445,7 @@ fn transposes_by_blocks<T: Copy + PartialEq + 'static>(width: usize, height: usi
         .collect();
     of_each_holder!(T, Holder => for side in [4, 8] {
         let mut output = std::vec![item(usize::MAX); width * height];
-        let matrix = Matrix::new(SliceSource::new(&input), width, height);
+        let matrix = Matrix::new(Holder::source(&input), width, height);
         let cells = Holder::hold(&mut output);
         let _ = match side {
             4 => transpose_matrix(cells, matrix, SliceStrips::<4>::Squares),
@@ -474,7 +483,7 @@ fn blocks_as_defined() {
 fn shuffles() {
     fn compare<const N: usize>()
     where
-        Of<N>: Paired<[u8; N]>,
+        Items<N>: Paired<Bytes<N>>,
     {
         let lists: [Vec<[u8; N]>; 2] = [0, 16].map(|first| {
             (0..16 / N)
@@ -482,18 +491,18 @@ fn shuffles() {
                 .collect()
         });
         let mut list = lists.concat();
-        let mut runs = SliceItems::new(&mut list);
-        let [a, b] = [0, 16 / N].map(|place| Loads::<_, Pair<Of<N>>>::load(&runs, place));
-        Runs::<_, Pair<Of<N>>>::store(&mut runs, 0, a.low(b));
-        Runs::<_, Pair<Of<N>>>::store(&mut runs, 16 / N, a.high(b));
+        let mut runs = SliceItems::new(&mut list).in_bytes();
+        let [a, b] = [0, 16 / N].map(|place| Loads::<Bytes<N>, Pair<Items<N>>>::load(&runs, place));
+        Runs::<Bytes<N>, Pair<Items<N>>>::store(&mut runs, 0, a.low(b));
+        Runs::<Bytes<N>, Pair<Items<N>>>::store(&mut runs, 16 / N, a.high(b));
         let interleaved: Vec<[u8; N]> = lists[0].iter().zip(&lists[1]).flat_map(|(a, b)| [*a, *b]).collect();
         assert_eq!(list, interleaved);
 
         let mut list = lists[0].clone();
-        let mut runs = SliceItems::new(&mut list);
+        let mut runs = SliceItems::new(&mut list).in_bytes();
         let (first, second) = a.halves();
-        Runs::<_, Of<N>>::store(&mut runs, 0, second);
-        Runs::<_, Of<N>>::store(&mut runs, 8 / N, Of::<N>::from_half(first).halves().0);
+        Runs::<Bytes<N>, Items<N>>::store(&mut runs, 0, second);
+        Runs::<Bytes<N>, Items<N>>::store(&mut runs, 8 / N, Items::<N>::from_half(first).halves().0);
         let (first, second) = lists[0].split_at(8 / N);
         assert_eq!(list, [second, first].concat());
     }
@@ -567,7 +576,7 @@ mod refused {
         });
     }
 
-    fn refuses_blocks<H: for<'a> Hold<'a, u32, Holder: Blocked<Item = u32>>>() {
+    fn refuses_blocks<H: Put<u32>>() {
         let refused = |change: fn(&mut Block)| {
             let mut block = Block {
                 rows: 4,
@@ -578,7 +587,7 @@ mod refused {
                 height: 5,
             };
             change(&mut block);
-            panics(|| H::hold(&mut [0u32; 21]).put_block(&SliceSource::new(&[0; 23]), block))
+            panics(|| put_block::<u32, H>(&mut [0; 21], &[0; 23], block))
         };
         assert!(!refused(|_| ()));
         assert!(refused(|block| block.from += 1) && refused(|block| block.from = usize::MAX));
@@ -597,29 +606,28 @@ mod refused {
     #[cfg(not(feature = "checked"))]
     #[test]
     fn runs() {
-        fn refuses_runs<T: Copy + Default, D: Register<T>>() {
-            let len = size_of::<D::Half>() / size_of::<T>();
-            assert_eq!(D::SIDE, len);
-            let mut list = [T::default(); 40];
+        fn refuses_runs<const N: usize, D: Register<Bytes<N>>>() {
+            let len = D::SIDE;
+            let mut list = [[MaybeUninit::new(0); N]; 40];
             let mut places = SliceItems::new(&mut list[..20]);
-            let first = Loads::<T, D>::load(&places, 0);
+            let first = Loads::<Bytes<N>, D>::load(&places, 0);
             for place in 0..=20 {
                 let is_outside = place + len > 20;
-                let call = |places: &mut _| Runs::<T, D>::store(places, place, first);
+                let call = |places: &mut _| Runs::<Bytes<N>, D>::store(places, place, first);
                 assert_eq!(
                     panics(|| call(&mut places)),
                     is_outside,
                     "a store of {len} items at {place}"
                 );
-                let call = |places: &_| _ = Loads::<T, D>::load(places, place);
+                let call = |places: &_| _ = Loads::<Bytes<N>, D>::load(places, place);
                 assert_eq!(panics(|| call(&places)), is_outside, "a load of {len} items at {place}");
             }
         }
-        refuses_runs::<u8, Of<1>>();
-        refuses_runs::<u16, Pair<Of<2>>>();
-        refuses_runs::<u32, Pair<Of<4>>>();
-        refuses_runs::<u64, Pair<Of<8>>>();
-        refuses_runs::<u128, Two<Whole>>();
+        refuses_runs::<1, Items<1>>();
+        refuses_runs::<2, Pair<Items<2>>>();
+        refuses_runs::<4, Pair<Items<4>>>();
+        refuses_runs::<8, Pair<Items<8>>>();
+        refuses_runs::<16, Two<Vector>>();
     }
 
     /// A store past the caches has to be inside the list, and aligned to 16 bytes. In a list of 17 items, only the first of these
@@ -632,11 +640,12 @@ mod refused {
 
         let mut list = Aligned([0; 24]);
         for len in 16..=20 {
-            let mut places = PastCaches(SliceItems::new(&mut list.0[..len]).in_registers::<Pair<Of<4>>>());
-            let run = Loads::<u32, Pair<Of<4>>>::load(&places, 0);
+            let list = SliceItems::new(&mut list.0[..len]).in_bytes();
+            let mut places = PastCaches(list.in_registers::<Pair<Items<4>>>());
+            let run = Loads::<Bytes<4>, Pair<Items<4>>>::load(&places, 0);
             for place in 0..=20 {
                 let is_wrong = place + 4 > len || place % 4 != 0;
-                let call = |places: &mut _| Runs::<u32, Pair<Of<4>>>::stream(places, place, run);
+                let call = |places: &mut _| Runs::<Bytes<4>, Pair<Items<4>>>::stream(places, place, run);
                 assert_eq!(panics(|| call(&mut places)), is_wrong, "a store at {place} of {len}");
             }
         }

@@ -5,8 +5,8 @@
 use std::array::from_fn;
 use std::ptr::null_mut;
 
-use super::super::{SliceItems, SliceSource, USES_REGISTERS};
-use crate::kernels::kernel::{Ahead, Block, Blocked, Tiled};
+use super::super::{Bytes, Items, SliceItems, SliceSource, USES_REGISTERS, Vector};
+use crate::kernels::kernel::{Ahead, Block, Tiled};
 use crate::kernels::places::{Cells, Places, Source};
 use crate::kernels::registers::blocks::SquaresOfCells;
 use crate::kernels::registers::{Pair, Register, Two};
@@ -133,10 +133,7 @@ fn steps<const N: usize>() {
 }
 
 /// Exchanges and transposes tiles, and puts blocks.
-fn squares<const N: usize, H>(ends_with_page: bool)
-where
-    H: for<'a> Hold<'a, [u8; N], Holder: Blocked<Item = [u8; N]>>,
-{
+fn squares<const N: usize, H: Put<[u8; N]>>(ends_with_page: bool) {
     let mut tiles = Runs::<N>::new(16, 8, ends_with_page);
     let row = |number: usize| number * 7 % 16;
     let (x, y) = (from_fn(|r| GAP * row(r)), from_fn(|r| GAP * row(8 + r)));
@@ -163,7 +160,7 @@ where
             to,
             height,
         };
-        H::hold(cells.list()).put_block(&SliceSource::new(source.list()), block);
+        put_block::<_, H>(cells.list(), source.list(), block);
         cells.has(|run, k| (k, run));
         source.has(|run, k| (run, k));
     }
@@ -210,7 +207,7 @@ fn columns_off_a_line<const N: usize>(ends_with_page: bool, put: impl Fn(&mut [[
 }
 
 /// Puts a block of whole cache lines past the caches, and a single column of it, of which each row is read from the column on.
-fn lines<const N: usize, D: Register<[u8; N]>>(ends_with_page: bool) {
+fn lines<const N: usize, D: Register<Bytes<N>>>(ends_with_page: bool) {
     let rows = 64 / N;
     for cols in [1, rows] {
         let mut source = Runs::<N>::new(rows, cols.max(16 / N), ends_with_page);
@@ -224,19 +221,19 @@ fn lines<const N: usize, D: Register<[u8; N]>>(ends_with_page: bool) {
             to,
             height,
         };
-        put_past_caches::<_, D>(cells.list(), source.list(), block);
+        put_past_caches::<N, D>(cells.list(), source.list(), block);
         cells.has(|run, k| (k, run));
         source.has(|run, k| (run, k));
     }
-    columns_off_a_line(ends_with_page, put_past_caches::<_, D>);
+    columns_off_a_line(ends_with_page, put_past_caches::<N, D>);
 }
 
 #[test]
 fn lines_touch_their_places_alone() {
     for ends_with_page in [false, true].into_iter().filter(|_| USES_REGISTERS) {
-        lines::<4, Pair<Of<4>>>(ends_with_page);
-        lines::<8, Pair<Of<8>>>(ends_with_page);
-        lines::<16, Two<Whole>>(ends_with_page);
+        lines::<4, Pair<Items<4>>>(ends_with_page);
+        lines::<8, Pair<Items<8>>>(ends_with_page);
+        lines::<16, Two<Vector>>(ends_with_page);
     }
 }
 
