@@ -141,10 +141,7 @@ fn blocks_and_regions(rt: HostRuntime) {
     equal(&rt, &butterfly_stage2(first), &turned);
     equal(&rt, &butterfly_4x4(block), &turned);
     let input = numbers(&rt, rt.alloc(), 12);
-    let shape = Shape {
-        width: 4,
-        height: 3,
-    };
+    let shape = Shape::new(4, 3);
     let region = Region {
         row_start: 1,
         row_end: 3,
