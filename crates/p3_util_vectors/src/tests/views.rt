@@ -21,11 +21,8 @@ const LENGTHS: [(usize, usize, Option<usize>); 4] = [
 fn check_view<const N: usize>(rt: &impl Abort, rows: &[[u64; N]], wanted: &[u64]) {
     assert!(rt; flat_len(rows.len(), N).is_some());
     let view = as_base_slice(rows);
-    equal(
-        rt,
-        &(view.len(), view.is_empty()),
-        &(wanted.len(), wanted.is_empty()),
-    );
+    equal(rt, &view.len(), &wanted.len());
+    equal(rt, &view.is_empty(), &wanted.is_empty());
     for (place, item) in wanted.iter().enumerate() {
         same(rt, place, &view.get(place), &Some(item));
     }
@@ -37,11 +34,8 @@ fn check_view<const N: usize>(rt: &impl Abort, rows: &[[u64; N]], wanted: &[u64]
 fn check_view_mut<const N: usize>(rt: &impl Abort, rows: &mut [[u64; N]], wanted: &[u64]) {
     assert!(rt; flat_len(rows.len(), N).is_some());
     let view = as_base_slice_mut(rows);
-    equal(
-        rt,
-        &(view.len(), view.is_empty()),
-        &(wanted.len(), wanted.is_empty()),
-    );
+    equal(rt, &view.len(), &wanted.len());
+    equal(rt, &view.is_empty(), &wanted.is_empty());
     for (place, item) in wanted.iter().enumerate() {
         same(rt, place, &view.get(place).copied(), &Some(*item));
     }
