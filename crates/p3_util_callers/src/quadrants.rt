@@ -6,12 +6,9 @@ ghost use Rattle.p3_util_callers.specs.Diagonal.{HoldsSquare, SwapsAcross};
 ghost use Rattle.p3_util.specs.Square.{IsSquareTransposed};
 ghost use Rattle.p3_util.specs.Steps.{counted};
 
+use crate::tiles::len_fits;
 use p3_util::places::{Places, Swaps};
 use p3_util::transpose::transpose_square_on;
-
-/// Does nothing at run time. A function calls it with the length of a list, so that its proof knows
-/// that this length fits in a `usize`.
-fn len_fits(_len: usize) {}
 
 /// Exchanges row `row` of the upper right quadrant of a square with its mirror image in the lower
 /// left quadrant. A quadrant has `half` rows and columns.
@@ -52,7 +49,7 @@ fn exchange_quadrants<S: Places>(places: &mut S, base: usize, stride: usize, hal
 
 /// 2 to the power of `exponent`. This is a function of its own, so that a proof knows nothing
 /// except the power.
-fn power(exponent: usize) -> usize
+pub(crate) fn power(exponent: usize) -> usize
     requires { exponent < 64 }
     ensures { result ≡ 2 ^ exponent }
 {

@@ -25,7 +25,7 @@ const BLOCKED_SIDE: usize = 16;
 
 /// Does nothing at run time. A function calls it with the length of a list, so that its proof knows
 /// that this length fits in a `usize`.
-fn len_fits(_len: usize) {}
+pub(crate) fn len_fits(_len: usize) {}
 
 /// The greatest number of rows of the regions that make up a matrix.
 const REGION_ROWS: usize = 128;

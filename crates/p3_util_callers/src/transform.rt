@@ -33,6 +33,7 @@ pub mod field;
 pub mod matrix;
 mod stage;
 
+use crate::quadrants::power;
 use field::{HALF, MOST_STAGES, PRIME, ROOTS, mul, pow, root};
 use matrix::RowMajorMatrix;
 use p3_util::{
@@ -240,11 +241,11 @@ fn transform_rows(values: &mut [u32], width: usize, levels: usize, powers: &[u32
 {
     reverse_rows(values, width);
     for s in 0..levels {
-        let blocks = 1 << (levels - 1 - s);
+        let blocks = power(levels - 1 - s);
         let twiddles = Twiddles {
             powers,
             stride: blocks,
         };
-        join_blocks(values, width, 1 << s, blocks, &twiddles);
+        join_blocks(values, width, power(s), blocks, &twiddles);
     }
 }

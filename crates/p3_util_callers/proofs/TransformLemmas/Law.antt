@@ -14,7 +14,7 @@ use Rattle.p3_util_callers.proofs.TransformLemmas.Remainders.{minus_one-odd, mod
 use Rattle.p3_util_callers.proofs.TransformLemmas.Sums.{sum_below-halves, sum_below-mod}
 use Rattle.p3_util_kernels.proofs.BitsLemmas.Sums.{sum_below-same, sum_below-scale}
 
--- sums of sums, sums of ones, and sums in which only one term is not 0
+-- sums of sums, sums of a constant, and sums in which only one term is not 0
 sum_below-add : (n : ℕ) (f g : ℕ → ℕ) → sum_below n (λ i. f i + g i) ≡ sum_below n f + sum_below n g
 unfolding sum_below
 sum_below-add zero f g = refl
@@ -22,28 +22,21 @@ sum_below-add (suc n) f g =
     let below : sum_below n (λ i. f i + g i) ≡ sum_below n f + sum_below n g = sum_below-add n f g in
     rw below (omega arith)
 
-sum_below-none : (n : ℕ) → sum_below n (λ i. 0) ≡ 0
+sum_below-constant : (n c : ℕ) → sum_below n (λ i. c) ≡ n * c
 unfolding sum_below
-sum_below-none zero = refl
-sum_below-none (suc n) =
-    let below : sum_below n (λ i. 0) ≡ 0 = sum_below-none n in
-    rw below refl
-
-sum_below-ones : (n : ℕ) → sum_below n (λ i. 1) ≡ n
-unfolding sum_below
-sum_below-ones zero = refl
-sum_below-ones (suc n) =
-    let below : sum_below n (λ i. 1) ≡ n = sum_below-ones n in
-    rw below (omega arith)
+sum_below-constant zero c = omega arith
+sum_below-constant (suc n) c =
+    let below : sum_below n (λ i. c) ≡ n * c = sum_below-constant n c in
+    rw below (grind arith)
 
 sum_below-swap : (n m : ℕ) (f : ℕ → ℕ → ℕ) → sum_below n (λ j. sum_below m (λ i. f i j)) ≡ sum_below m (λ i. sum_below n (λ j. f i j))
 unfolding sum_below
-sum_below-swap zero m f = sym (sum_below-none m)
+sum_below-swap zero m f = sym (sum_below-constant m 0 ∙ omega arith)
 sum_below-swap (suc n) m f =
     ap (λ s. s + sum_below m (λ i. f i n)) (sum_below-swap n m f) ∙ sym (sum_below-add m (λ i. sum_below n (λ j. f i j)) (λ i. f i n))
 
 sum_below-vanishes : (p n : ℕ) (f : ℕ → ℕ) → ((i : ℕ) → i < n → f i % p ≡ 0 % p) → sum_below n f % p ≡ 0 % p
-sum_below-vanishes p n f h = sum_below-mod p n f (λ i. 0) h ∙ ap (λ s. s % p) (sum_below-none n)
+sum_below-vanishes p n f h = sum_below-mod p n f (λ i. 0) h ∙ ap (λ s. s % p) (sum_below-constant n 0 ∙ omega arith)
 
 sum_below-single : (p n r : ℕ) (f : ℕ → ℕ) → r < n → ((i : ℕ) → i < n → i ≢ r → f i % p ≡ 0 % p) → sum_below n f % p ≡ f r % p
 unfolding sum_below
@@ -144,7 +137,7 @@ together p k w r one =
     let order : n + 1 ≡ 2 ^ k = omega arith in
     let exponent : r + n * r ≡ 2 ^ k * r = rw (← order) (grind arith) in
     let power : w ^ (r + n * r) % p ≡ 1 % p = ap (λ m. w ^ m % p) exponent ∙ ap (λ m. m % p) (pow-mul w (2 ^ k) r) ∙ one-power p (w ^ 2 ^ k) r one in
-    sum_below-mod p (2 ^ k) _ (λ j. 1) (λ j h. one-power p (w ^ (r + n * r)) j power) ∙ ap (λ m. m % p) (sum_below-ones (2 ^ k))
+    sum_below-mod p (2 ^ k) _ (λ j. 1) (λ j h. one-power p (w ^ (r + n * r)) j power) ∙ ap (λ m. m % p) (sum_below-constant (2 ^ k) 1 ∙ omega arith)
 
 -- the inverse of 2 ^ k
 halves_cancel : (k : ℕ) → (2 ^ k * HALF ^ k) % PRIME ≡ 1 % PRIME

@@ -1,6 +1,7 @@
 -- Laws of remainders and powers, and of the table of roots.
 use Rattle.std.proofs.Common.{◌≡◌, ◌≢◌, ℕ, suc, ◌+◌, ◌*◌, ◌/◌, ◌%◌, ◌^◌, ◌<◌, true, ◌==◌, get_or, refl, sym, ap, ◌∙◌, arith, eqb-true}
 use Rattle.std.proofs.Math.Nat.{pow-suc}
+use Rattle.std.proofs.lemmas.Grind.{pow_more}
 use Rattle.std.proofs.lemmas.Nat.{pow-add, mul-pow, mul-mod_first, mul-mod_second, pow-mod}
 use Rattle.p3_util_kernels.proofs.BitsLemmas.Tables.{all_below, all_below-at}
 use Rattle.p3_util_callers.specs.declared.transform.field.TheConstants.{PRIME, ROOTS}
@@ -33,7 +34,5 @@ pow_odd p r b e h =
     mul-mod_first (r * b) ((b * b % p) ^ (e / 2)) p ∙ pow_halved p (r * b) b e ∙ ap (λ n. n % p) last ∙ ap (λ n. (r * b ^ n) % p) half
 
 -- one more factor
-pub pow_more : (p b i r : ℕ) → r ≡ b ^ i % p → r * b % p ≡ b ^ (i + 1) % p
-pow_more p b i r e =
-    let more : b ^ (i + 1) ≡ b ^ i * b = ap (λ n. b ^ n) (omega arith) ∙ pow-suc b i in
-    ap (λ n. n * b % p) e ∙ mul-mod_first (b ^ i) b p ∙ ap (λ n. n % p) (sym more)
+pub pow_next : (p b i r : ℕ) → r ≡ b ^ i % p → r * b % p ≡ b ^ (i + 1) % p
+pow_next p b i r e = ap (λ n. n * b % p) e ∙ mul-mod_first (b ^ i) b p ∙ ap (λ n. n % p) (sym (pow_more b i))

@@ -35,6 +35,10 @@ pub(crate) struct Shape {
 }
 
 impl Shape {
+    pub(crate) fn new(width: usize, height: usize) -> Self {
+        Shape { width, height }
+    }
+
     /// The number of items of the matrix.
     pub(crate) fn len(self) -> usize {
         self.width.saturating_mul(self.height)

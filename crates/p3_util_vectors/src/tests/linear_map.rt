@@ -33,21 +33,14 @@ fn check_pairs<K: Eq + Debug, V: PartialEq + Debug>(
     map: &LinearMap<K, V>,
     pairs: &[(K, V)],
 ) {
-    equal(
-        rt,
-        &(map.len(), map.is_empty()),
-        &(pairs.len(), pairs.is_empty()),
-    );
+    equal(rt, &map.len(), &pairs.len());
+    equal(rt, &map.is_empty(), &pairs.is_empty());
     assert!(rt; map.iter().eq(pairs.iter()) && map.into_iter().eq(pairs.iter()));
     assert!(rt; map.iter().rev().eq(pairs.iter().rev()));
     let (mut keys, mut values) = (map.keys(), map.values());
     for (place, (key, value)) in pairs.iter().enumerate() {
-        same(
-            rt,
-            place,
-            &(keys.next(), values.next()),
-            &(Some(key), Some(value)),
-        );
+        same(rt, place, &keys.next(), &Some(key));
+        same(rt, place, &values.next(), &Some(value));
         assert!(rt; map.get(key).is_some());
         same(rt, place, &map[key], value);
     }

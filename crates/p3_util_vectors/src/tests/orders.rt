@@ -91,10 +91,7 @@ fn check_parts(rt: &impl Abort, puts: &[usize], height: usize, len: usize, side:
 
 #[test]
 fn blocks_of_tiles_in_order(rt: HostRuntime) {
-    let shape = Shape {
-        width: 32,
-        height: 32,
-    };
+    let shape = Shape::new(32, 32);
     let puts = puts(&rt, rt.alloc(), Put::On, shape);
     check_parts(&rt, &puts, 32, 16, 4);
     check_parts(&rt, &puts, 32, 256, 16);
@@ -105,10 +102,7 @@ fn blocks_of_tiles_in_order(rt: HostRuntime) {
 /// split it would be to the right of the second. The last part has 65 columns.
 #[test]
 fn parts_of_a_split_in_order(rt: HostRuntime) {
-    let shape = Shape {
-        width: 1025,
-        height: 1024,
-    };
+    let shape = Shape::new(1025, 1024);
     let puts = puts(&rt, rt.alloc(), Put::On, shape);
     equal(&rt, &puts.len(), &1_049_600);
     let mut next = 0;
@@ -132,10 +126,7 @@ fn parts_of_a_split_in_order(rt: HostRuntime) {
 /// split, the first 128 would be.
 #[test]
 fn halves_of_a_split_in_order(rt: HostRuntime) {
-    let shape = Shape {
-        width: 3,
-        height: 129,
-    };
+    let shape = Shape::new(3, 129);
     for call in [Put::Split(64), Put::SourceSplit(64)] {
         let puts = puts(&rt, rt.alloc(), call, shape);
         equal(&rt, &puts.len(), &387);

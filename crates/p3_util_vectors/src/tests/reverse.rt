@@ -153,10 +153,7 @@ const SQUARES: [u128; 10] = [1, 6, 28, 120, 496, 2016, 8128, 32640, 130_816, 523
 fn check_squares<T: Item>(rt: &impl Abort, alloc: Global) {
     for (log, wanted) in (1usize..).zip(SQUARES) {
         let side = 1usize << (log % 64);
-        let shape = Shape {
-            width: side,
-            height: side,
-        };
+        let shape = Shape::new(side, side);
         let mut list = found(rt, numbered::<T>(alloc, shape.len()));
         let call = Call::Square(0, log, log);
         let swaps = count_swaps(rt, &mut SlicePlaces::new(&mut list), call);

@@ -82,12 +82,8 @@ fn numbered_items(rt: HostRuntime) {
         let output = transposed_slice(&rt, rt.alloc(), &input, shape);
         same(&rt, width, &hash(&output), &wanted);
         let (output, writes) = transposed(&rt, rt.alloc(), Put::On, &input, shape);
-        same(
-            &rt,
-            width,
-            &(hash(&output), writes),
-            &(wanted, shape.len() as u128),
-        );
+        same(&rt, width, &hash(&output), &wanted);
+        same(&rt, width, &writes, &(shape.len() as u128));
     }
     for (width, height, wanted, places) in NUMBERED {
         let shape = Shape { width, height };
@@ -141,10 +137,7 @@ fn blocks_and_regions(rt: HostRuntime) {
     equal(&rt, &butterfly_stage2(first), &turned);
     equal(&rt, &butterfly_4x4(block), &turned);
     let input = numbers(&rt, rt.alloc(), 12);
-    let shape = Shape {
-        width: 4,
-        height: 3,
-    };
+    let shape = Shape::new(4, 3);
     let region = Region {
         row_start: 1,
         row_end: 3,
@@ -159,11 +152,8 @@ fn blocks_and_regions(rt: HostRuntime) {
         row_end: 1,
         ..region
     };
-    equal(
-        &rt,
-        &transposed(&rt, rt.alloc(), Put::Region(empty), &input, shape).1,
-        &0,
-    );
+    let (_, writes) = transposed(&rt, rt.alloc(), Put::Region(empty), &input, shape);
+    equal(&rt, &writes, &0);
 }
 
 /// The lengths of two lists, widths and heights, and whether both lists have as many items as such
@@ -208,12 +198,8 @@ const REGIONS: [([usize; 2], [usize; 2], bool); 8] = [
 #[test]
 fn conditions(rt: HostRuntime) {
     for (row, (input, output, width, height, wanted)) in LENGTHS.into_iter().enumerate() {
-        same(
-            &rt,
-            row,
-            &fits_matrix(input, output, width, height),
-            &wanted,
-        );
+        let fits = fits_matrix(input, output, width, height);
+        same(&rt, row, &fits, &wanted);
     }
     for (row, (len, base, log_stride, log_size, wanted)) in SQUARES.into_iter().enumerate() {
         let fits = fits_square(len, base, log_stride, log_size);

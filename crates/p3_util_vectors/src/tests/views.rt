@@ -12,12 +12,8 @@ use std::process::Abort;
 /// Numbers of arrays and their lengths, and the number of their items.
 const LENGTHS: [(usize, usize, Option<usize>); 4] = [
     (3, 4, Some(12)),
-    (9_223_372_036_854_775_808, 2, None),
-    (
-        9_223_372_036_854_775_808,
-        1,
-        Some(9_223_372_036_854_775_808),
-    ),
+    (1 << 63, 2, None),
+    (1 << 63, 1, Some(1 << 63)),
     (usize::MAX, 0, Some(0)),
 ];
 
@@ -25,11 +21,8 @@ const LENGTHS: [(usize, usize, Option<usize>); 4] = [
 fn check_view<const N: usize>(rt: &impl Abort, rows: &[[u64; N]], wanted: &[u64]) {
     assert!(rt; flat_len(rows.len(), N).is_some());
     let view = as_base_slice(rows);
-    equal(
-        rt,
-        &(view.len(), view.is_empty()),
-        &(wanted.len(), wanted.is_empty()),
-    );
+    equal(rt, &view.len(), &wanted.len());
+    equal(rt, &view.is_empty(), &wanted.is_empty());
     for (place, item) in wanted.iter().enumerate() {
         same(rt, place, &view.get(place), &Some(item));
     }
@@ -41,11 +34,8 @@ fn check_view<const N: usize>(rt: &impl Abort, rows: &[[u64; N]], wanted: &[u64]
 fn check_view_mut<const N: usize>(rt: &impl Abort, rows: &mut [[u64; N]], wanted: &[u64]) {
     assert!(rt; flat_len(rows.len(), N).is_some());
     let view = as_base_slice_mut(rows);
-    equal(
-        rt,
-        &(view.len(), view.is_empty()),
-        &(wanted.len(), wanted.is_empty()),
-    );
+    equal(rt, &view.len(), &wanted.len());
+    equal(rt, &view.is_empty(), &wanted.is_empty());
     for (place, item) in wanted.iter().enumerate() {
         same(rt, place, &view.get(place).copied(), &Some(*item));
     }
@@ -87,10 +77,7 @@ fn kernels_on_a_view(rt: HostRuntime) {
     equal(&rt, &rows, &[[0, 1], [4, 5], [2, 3], [6, 7]]);
     let mut rows = [[0u64; 2]; 3];
     let mut view = as_base_slice_mut(&mut rows);
-    let shape = Shape {
-        width: 3,
-        height: 2,
-    };
+    let shape = Shape::new(3, 2);
     let writes = count_writes(&rt, Put::On, &[1, 2, 3, 4, 5, 6], &mut view, shape);
     equal(&rt, &writes, &6);
     equal(&rt, &rows, &[[1, 4], [2, 5], [3, 6]]);
@@ -113,28 +100,19 @@ fn numbered_rows() -> [[u64; 17]; 19] {
 fn transposes_between_views(rt: HostRuntime) {
     let mut turned = [[0u64; 2]; 3];
     let mut view = as_base_slice_mut(&mut turned);
-    let shape = Shape {
-        width: 3,
-        height: 2,
-    };
+    let shape = Shape::new(3, 2);
     let rows = [[0, 1, 2], [3, 4, 5]];
     let writes = put_between(&rt, &as_base_slice(&rows), &mut view, shape);
     equal(&rt, &writes, &6);
     equal(&rt, &turned, &[[0, 3], [1, 4], [2, 5]]);
     let mut none = [[0u64; 4]; 0];
     let mut view = as_base_slice_mut(&mut none);
-    let shape = Shape {
-        width: 0,
-        height: 5,
-    };
+    let shape = Shape::new(0, 5);
     let writes = put_between(&rt, &as_base_slice::<u64, 3>(&[]), &mut view, shape);
     equal(&rt, &writes, &0);
     let mut turned = [[0u64; 19]; 17];
     let mut view = as_base_slice_mut(&mut turned);
-    let shape = Shape {
-        width: 17,
-        height: 19,
-    };
+    let shape = Shape::new(17, 19);
     let rows = numbered_rows();
     let writes = put_between(&rt, &as_base_slice(&rows), &mut view, shape);
     equal(&rt, &writes, &323);

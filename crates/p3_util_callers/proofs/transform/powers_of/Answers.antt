@@ -1,7 +1,7 @@
 -- Each turn of the loop writes one more power.
 use Rattle.std.proofs.Common.{◌<◌, ◌∙◌, length, get_or-set_same, get_or-set_other, below_more, rules, arith}
 use Rattle.p3_util_callers.specs.declared.transform.field.TheConstants.{PRIME}
-use Rattle.p3_util_callers.proofs.TransformLemmas.Numbers.{pow_more}
+use Rattle.p3_util_callers.proofs.TransformLemmas.Numbers.{pow_next}
 use Rattle.p3_util_callers.proofs.transform.powers_of.Goals as goal
 
 pub loop-i-preserved : goal.loop-i-preserved
@@ -11,7 +11,7 @@ loop-i-preserved c =
     let inside : i < length items = search rules in
     record {
       len = search rules;
-      next = c.mul-power.ensures ∙ pow_more PRIME c.args.root i _ c.loop-i.invariant.next;
+      next = c.mul-power.ensures ∙ pow_next PRIME c.args.root i _ c.loop-i.invariant.next;
       each = below_more _ i
           (λ k h. get_or-set_other items i k _ 0 (omega arith) ∙ c.loop-i.invariant.each k h)
           (get_or-set_same items i _ 0 inside ∙ c.loop-i.invariant.next);

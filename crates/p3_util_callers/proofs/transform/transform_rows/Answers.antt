@@ -2,7 +2,7 @@
 -- transform.
 use Rattle.std.proofs.Common.{◌≡◌, ◌-◌, ◌*◌, ◌%◌, ◌^◌, ◌<◌, ◌∙◌, length, sym, subst, rules, arith}
 use Rattle.std.proofs.Math.Nat.{mul_comm, mul-lt-mul_of_pos_right}
-use Rattle.std.proofs.lemmas.Nat.{one_shl, pow_below, pow_pos, pow-add}
+use Rattle.std.proofs.lemmas.Nat.{pow_below, pow_pos, pow-add}
 use Rattle.p3_util_callers.specs.Stages.{AreBlocksJoined, IsStage}
 use Rattle.p3_util_callers.proofs.TransformLemmas.Stages.{AreBelowPrime-reversed, IsStage-first, IsStage-last, IsStage-step, stage_half, stage_rows}
 use Rattle.p3_util_callers.proofs.transform.transform_rows.Goals as goal
@@ -23,42 +23,34 @@ pub join_blocks-requires-clause-rows : goal.join_blocks-requires-clause-rows
 join_blocks-requires-clause-rows c =
     let k = c.args.levels in
     let s = c.loop-s.s in
-    let blocks : 1 * 2 ^ (k - 1 - s) % 2 ^ 64 ≡ 2 ^ (k - 1 - s) = one_shl (k - 1 - s) 64 (omega arith) in
-    let half : 1 * 2 ^ s % 2 ^ 64 ≡ 2 ^ s = one_shl s 64 (omega arith) in
-    rw (blocks, half, stage_rows k s c.loop-s-test.true) (pow_below k 64 c.requires.levels)
+    rw (c.power-blocks.ensures, c.power.ensures, stage_rows k s c.loop-s-test.true) (pow_below k 64 c.requires.levels)
 
 pub join_blocks-requires-clause-len : goal.join_blocks-requires-clause-len
 join_blocks-requires-clause-len c =
     let k = c.args.levels in
     let s = c.loop-s.s in
-    let blocks : 1 * 2 ^ (k - 1 - s) % 2 ^ 64 ≡ 2 ^ (k - 1 - s) = one_shl (k - 1 - s) 64 (omega arith) in
-    let half : 1 * 2 ^ s % 2 ^ 64 ≡ 2 ^ s = one_shl s 64 (omega arith) in
     let same : length c.loop-s.values ≡ length c.args.values.now = search rules in
-    rw (blocks, half, stage_rows k s c.loop-s-test.true) (same ∙ c.requires.len ∙ mul_comm c.args.width (2 ^ k))
+    rw (c.power-blocks.ensures, c.power.ensures, stage_rows k s c.loop-s-test.true) (same ∙ c.requires.len ∙ mul_comm c.args.width (2 ^ k))
 
 pub join_blocks-requires-clause-enough : goal.join_blocks-requires-clause-enough
 join_blocks-requires-clause-enough c i h =
     let k = c.args.levels in
     let s = c.loop-s.s in
     let m = k - 1 - s in
-    let blocks : 1 * 2 ^ m % 2 ^ 64 ≡ 2 ^ m = one_shl m 64 (omega arith) in
-    let half : 1 * 2 ^ s % 2 ^ 64 ≡ 2 ^ s = one_shl s 64 (omega arith) in
-    let less : i < 2 ^ s = rw half at h in
+    let less : i < 2 ^ s = rw c.power.ensures at h in
     let within : i * 2 ^ m < 2 ^ s * 2 ^ m = mul-lt-mul_of_pos_right less (pow_pos m) in
     let all : 2 ^ s * 2 ^ m ≡ length c.args.powers.now =
     mul_comm (2 ^ s) (2 ^ m) ∙ sym (pow-add 2 m s) ∙ stage_half k s c.loop-s-test.true ∙ sym c.requires.count in
-    rw blocks (rw all at within)
+    rw c.power-blocks.ensures (rw all at within)
 
 pub loop-s-preserved : goal.loop-s-preserved
 loop-s-preserved c =
     let k = c.args.levels in
     let s = c.loop-s.s in
     let m = k - 1 - s in
-    let blocks : 1 * 2 ^ m % 2 ^ 64 ≡ 2 ^ m = one_shl m 64 (omega arith) in
-    let half : 1 * 2 ^ s % 2 ^ 64 ≡ 2 ^ s = one_shl s 64 (omega arith) in
     let mid = c.loop-s.values in
     let new = c.join_blocks.new.values in
-    let joined : AreBlocksJoined c.args.width (2 ^ s) (2 ^ m) (2 ^ m) c.args.powers.now mid new = rw (blocks, half) at c.join_blocks.ensures.joined in
+    let joined : AreBlocksJoined c.args.width (2 ^ s) (2 ^ m) (2 ^ m) c.args.powers.now mid new = rw (c.power-blocks.ensures, c.power.ensures) at c.join_blocks.ensures.joined in
     let same : length new ≡ length mid = search rules in
     record {
       below = c.join_blocks.ensures.below;
