@@ -8,13 +8,10 @@ use p3_util::chunks::{apply_to_chunks, iter_array_chunks_padded};
 use std::cell::Cell;
 use std::process::Abort;
 
-/// In the answers of an iterator, this stands for `None`.
-const NOTHING: u8 = 255;
-
 /// An iterator that yields the given answers in order and then `None`, and counts its calls.
 #[derive(Drop)]
 struct Asked<'a> {
-    answers: &'a [u8],
+    answers: &'a [Option<u8>],
     asks: &'a Cell<usize>,
 }
 
@@ -27,7 +24,7 @@ impl<'a> Iterator for Asked<'a> {
         self.asks.set(self.asks.get().wrapping_add(1));
         let (first, rest) = self.answers.split_first()?;
         self.answers = rest;
-        (*first != NOTHING).then_some(*first)
+        *first
     }
 }
 
@@ -44,7 +41,7 @@ fn count_wanted(wanted: &[&[u8]], count: usize, piece: &[u8]) -> usize {
 /// `wanted_asks` times.
 fn check_pieces<const BUFLEN: usize>(
     rt: &impl Abort,
-    answers: &[u8],
+    answers: &[Option<u8>],
     wanted: &[&[u8]],
     wanted_asks: usize,
 )
@@ -66,7 +63,7 @@ fn check_pieces<const BUFLEN: usize>(
 /// called `wanted_asks` times.
 fn check_padded<const N: usize>(
     rt: &impl Abort,
-    answers: &[u8],
+    answers: &[Option<u8>],
     fill: u8,
     wanted: &[[u8; N]],
     wanted_asks: usize,
@@ -87,7 +84,7 @@ fn check_padded<const N: usize>(
 }
 
 /// Two numbers, and one more after the first `None`.
-const BROKEN: [u8; 4] = [1, 2, NOTHING, 3];
+const BROKEN: [Option<u8>; 4] = [Some(1), Some(2), None, Some(3)];
 
 #[test]
 fn pieces_of_lists(rt: HostRuntime) {
@@ -115,7 +112,7 @@ fn pieces_of_lists(rt: HostRuntime) {
 #[test]
 fn padded_pieces(rt: HostRuntime) {
     check_padded(&rt, &NUMBERS[1..6], 9, &[[1, 2, 3, 4], [5, 9, 9, 9]], 6);
-    check_padded(&rt, &[1, NOTHING, 2], 0, &[[1, 0]], 2);
+    check_padded(&rt, &[Some(1), None, Some(2)], 0, &[[1, 0]], 2);
     check_padded(&rt, &BROKEN, 0, &[[1, 2]], 3);
     check_padded::<0>(&rt, &NUMBERS[1..3], 0, &[], 0);
     for (len, wanted) in &PADDED_BY_THREE {

@@ -22,12 +22,17 @@ fn check_shape<T: Item>(
     check_transposed(rt, &output[..len], shape);
 }
 
-/// Every pair of sides up to 17, and the shapes of the original's tests.
+/// Every pair of sides up to 17, one row and one column of up to 200 items, and the shapes of the
+/// original's tests.
 fn check_shapes<T: Item>(rt: &impl Abort, alloc: Global) {
     let input = found(rt, numbered::<T>(alloc, 2003 * 757));
     let mut output = found(rt, input.to_vec(alloc));
     for k in 0..17 * 17usize {
         check_shape(rt, &input, &mut output, k / 17 + 1, k % 17 + 1);
+    }
+    for len in 1..=200 {
+        check_shape(rt, &input, &mut output, len, 1);
+        check_shape(rt, &input, &mut output, 1, len);
     }
     for (width, height, _) in TRANSPOSES {
         check_shape(rt, &input, &mut output, width, height);
