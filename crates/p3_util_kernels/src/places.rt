@@ -16,9 +16,10 @@
 //! - A *kernel* is the generic function that does the work of a call. It takes a holder by value,
 //!   changes the list and returns the holder.
 //!
-//! A kernel is generic over its holder, and cannot reach the list in any other way than by steps. So
-//! its contract can give the exact number of steps that the holder makes. The kernel can neither
-//! leave out a step nor make an extra one.
+//! The traits of holders have only a length and one step, or one read. A kernel is generic over its
+//! holder, so it changes the list by steps alone, and its contract can give the exact number of
+//! steps that the holder makes. The kernel can neither leave out a step nor make an extra one. A
+//! counter makes each step by itself and counts it, also where a kernel asks for many at once.
 //!
 //! A reference to a holder is a holder too. A call on a slice runs its kernel on a holder of that
 //! slice. A call whose name ends in `_on`, `_short` or `_long` is given a counter. It runs its
@@ -26,8 +27,8 @@
 
 ghost use Rattle.std.specs.Prelude.{◌≡◌, ℕ, ◌+◌, ◌<◌, List, Some, length, swap, slice_get, slice_set};
 
-// `bulk` has the traits by which a kernel hands a holder many steps at once. Holders of slices have
-// faster ways to make them, and counters make them one by one.
+// `bulk` has hidden traits above these, by which a kernel asks for many steps at once. Only holders
+// of slices, here and in the package, have faster ways to make them. Counters make them one by one.
 pub(crate) mod bulk;
 mod counters;
 mod references;

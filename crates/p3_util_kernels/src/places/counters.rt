@@ -1,7 +1,7 @@
 //! Counters: holders around another holder, which count its exchanges or its puts.
 //!
-//! A counter is itself a holder, as [`places`](crate::places) explains. The count rises by the
-//! number of steps that the holder inside makes. The fields are visible in the whole crate, because
+//! A counter is itself a holder, as [`places`](crate::places) explains. The count rises by 1 with
+//! each step that the holder inside makes. The fields are visible in the whole crate, because
 //! the `_on` calls lend the holder inside to a kernel. The kernel itself cannot reach the fields of
 //! a counter, since it is generic over its holder.
 

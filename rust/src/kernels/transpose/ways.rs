@@ -8,9 +8,11 @@
 //!   into its cell.
 //! - A *way* to put a region is a [`PutRegion`]. [`InRows`] and [`InCols`] cut the region into parts
 //!   and put these in ways of their own. [`Columns`] puts item after item, and [`Blocks`] hands blocks
-//!   to the holder. So `InRows<24, Columns, Columns>` puts a region 24 rows at a time, and each of
-//!   these parts column after column. The contract is the same for all ways. A number of rows or
-//!   columns in a type that is 0 stands for 1, so that each part has items.
+//!   to the holder, which puts each in its own way. Only the holders of slices, here and in the
+//!   package, have one: a counter puts item after item. So `InRows<24, Columns, Columns>` puts a
+//!   region 24 rows at a time, and each of these parts column after column. The contract is the same
+//!   for all ways. A number of rows or columns in a type that is 0 stands for 1, so that each part
+//!   has items.
 //!
 //! Each way takes the holder by value and returns it. This keeps the holder in registers in the
 //! loops.
