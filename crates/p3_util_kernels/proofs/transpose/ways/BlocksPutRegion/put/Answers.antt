@@ -1,8 +1,29 @@
 -- Each turn of the loop puts one more block. Then follow the rows that remain.
-use Rattle.std.proofs.Common.{◌≡◌, ◌+◌, ◌-◌, ◌*◌, ◌/◌, ◌≤◌, arith}
+use Rattle.std.proofs.Common.{◌≡◌, ◌+◌, ◌-◌, ◌*◌, ◌/◌, ◌≤◌, inl, arith}
 use Rattle.std.proofs.Math.Nat.{div-mul-le_self}
-use Rattle.p3_util_kernels.proofs.TransposeLemmas.Region.{IsCut-rows, IsRegionTransposed-rows, part_inside}
+use Rattle.p3_util_kernels.specs.Region.{cols_of}
+use Rattle.p3_util_kernels.proofs.TransposeLemmas.Region.{IsCut-rows, IsRegionTransposed-rows, nothing_put, part_inside}
 use Rattle.p3_util_kernels.proofs.transpose.ways.BlocksPutRegion.put.Goals as goal
+
+pub overflow_mul-row : goal.overflow_mul-row
+overflow_mul-row g c = omega (arith, part_inside c.loop-part.part c.max-rows.result c.rows.result (omega arith), c.rows.ensures)
+
+pub overflow_add-row : goal.overflow_add-row
+overflow_add-row g c = omega (arith, part_inside c.loop-part.part c.max-rows.result c.rows.result (omega arith), c.rows.ensures)
+
+pub overflow_add-row-in-loop-part : goal.overflow_add-row-in-loop-part
+overflow_add-row-in-loop-part g c = omega (arith, part_inside c.loop-part.part c.max-rows.result c.rows.result (omega arith), c.rows.ensures)
+
+pub overflow_mul-row-2 : goal.overflow_mul-row-2
+overflow_mul-row-2 g c = omega (arith, div-mul-le_self c.rows.result c.max-rows.result, c.rows.ensures)
+
+pub overflow_add-row-2 : goal.overflow_add-row-2
+overflow_add-row-2 g c = omega (arith, div-mul-le_self c.rows.result c.max-rows.result, c.rows.ensures)
+
+pub loop-part-init : goal.loop-part-init
+loop-part-init g c =
+    let none : 0 * c.max-rows.result * cols_of c.args.region ≡ 0 = omega arith in
+    record { transposed = nothing_put _ _ _ _ _ (inl (omega arith)); holder = rw none (g.met.M.Cells.same_holder_refl _) }
 
 pub loop-part-preserved : goal.loop-part-preserved
 loop-part-preserved g c =

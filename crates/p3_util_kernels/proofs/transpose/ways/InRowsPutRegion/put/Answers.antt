@@ -1,9 +1,15 @@
 -- Each turn of the loop puts one more part, in one of two ways.
-use Rattle.std.proofs.Common.{◌≡◌, ◌+◌, ◌-◌, arith}
-use Rattle.p3_util_kernels.specs.Region.{IsRegionTransposed, items_of}
-use Rattle.p3_util_kernels.proofs.TransposeLemmas.Region.{IsCut-rows, IsRegionTransposed-rows}
+use Rattle.std.proofs.Common.{◌≡◌, ◌+◌, ◌-◌, ◌*◌, ◌∙◌, inl, ap, arith}
+use Rattle.p3_util_kernels.specs.Region.{IsRegionTransposed, cols_of, items_of}
+use Rattle.p3_util_kernels.proofs.TransposeLemmas.Region.{IsCut-rows, IsRegionTransposed-rows, nothing_put}
 use Rattle.p3_util_kernels.proofs.transpose.ways.InRowsPutRegion.put.Goals.{then-rows-most, else-rows-most}
 use Rattle.p3_util_kernels.proofs.transpose.ways.InRowsPutRegion.put.Goals as goal
+
+pub loop-row-init : goal.loop-row-init
+loop-row-init g c =
+    let same : c.args.region.row_start - c.args.region.row_start ≡ 0 = omega arith in
+    let none : (c.args.region.row_start - c.args.region.row_start) * cols_of c.args.region ≡ 0 = ap (λ n. n * cols_of c.args.region) same ∙ omega arith in
+    record { from = omega arith; to = omega arith; transposed = nothing_put _ _ _ _ _ (inl (omega arith)); holder = rw none (g.met.M.Cells.same_holder_refl _) }
 
 pub loop-row-preserved : goal.loop-row-preserved
 loop-row-preserved g c =
