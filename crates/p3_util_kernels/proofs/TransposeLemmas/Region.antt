@@ -1,5 +1,5 @@
 -- Regions of a matrix are transposed one after another.
-use Rattle.std.proofs.Common.{◌≡◌, ℕ, ◌+◌, ◌-◌, ◌*◌, ◌/◌, ◌<◌, ◌≤◌, ◌⊎◌, List, inl, inr, slice_get, ◌∙◌, arith}
+use Rattle.std.proofs.Common.{◌≡◌, ℕ, ◌+◌, ◌-◌, ◌*◌, ◌/◌, ◌<◌, ◌≤◌, ◌⊎◌, List, inl, inr, slice_get, refl, ◌∙◌, arith}
 use Rattle.std.proofs.Math.Nat.{div-mul-le_self, mul-le-mul_right}
 use Rattle.std.proofs.lemmas.Nat.{same_from_place}
 use Rattle.p3_util_kernels.specs.declared.transpose.regions.Region.{Region}
@@ -38,6 +38,11 @@ IsCut-cols whole mid from to = record {
 -- each whole part of `size` numbers is among the `all` numbers that are cut, and so are all of them
 pub part_inside : (part size all : ℕ) → part < all / size → part * size + size ≤ all
 part_inside part size all h = omega (arith, mul-le-mul_right size (let next : part + 1 ≤ all / size = omega (arith, h) in next), div-mul-le_self all size)
+
+-- a region without rows or without columns is put from the beginning
+pub nothing_put : {A : Type 0} (region : Region) (width height : ℕ) (input xs : List A) → (region.row_end ≤ region.row_start) ⊎ (region.col_end ≤ region.col_start)
+    → IsRegionTransposed region width height input xs xs
+nothing_put region width height input xs none = record { same_length = refl; places = λ x y h. absurd (grind (arith, none, h)); others = λ p out. refl }
 
 -- if a region is cut into two, putting one and then the other puts the region
 pub IsRegionTransposed-cut : {A : Type 0} (width height : ℕ) (input : List A) (whole first second : Region) (old mid new : List A) → whole.row_end ≤ height

@@ -6,8 +6,8 @@
 //!   some neighbouring columns. To *put* a region, or a part of one, is to put each of its items
 //!   into its cell.
 //! - A *way* to put a region is a [`PutRegion`]. [`InRows`] and [`InCols`] cut the region into parts
-//!   and put these in ways of their own. [`Columns`] puts item after item, and [`Blocks`] hands
-//!   blocks to the holder, which puts each in its own way. Only the holders of slices, here and in the
+//!   and put these in ways of their own. [`Columns`] puts item after item, and [`Blocks`] hands blocks
+//!   to the holder, which puts each in its own way. Only the holders of slices, here and in the
 //!   package, have one: a counter puts item after item. So `InRows<24, Columns, Columns>` puts a
 //!   region 24 rows at a time, and each of these parts column after column. The contract is the same
 //!   for all ways. A number of rows or columns in a type that is 0 stands for 1, so that each part
@@ -44,8 +44,8 @@ pub trait PutRegion: Copy {
         ensures holder { M.same_holder (items_of region) out result };
 }
 
-/// `InRows(whole, rest)` puts `ROWS` rows at a time, from top to bottom, in the way `whole`, and then
-/// the rows that remain in the way `rest`.
+/// `InRows(whole, rest)` puts `ROWS` rows at a time, from top to bottom. Parts of `ROWS` rows are put
+/// in the way `whole`, and the last one in the way `rest` if it has fewer rows.
 #[derive(Clone, Copy)]
 #[doc(hidden)]
 pub struct InRows<const ROWS: usize, W, V>(pub W, pub V);
@@ -59,17 +59,18 @@ impl<const ROWS: usize, W: PutRegion, V: PutRegion> PutRegion for InRows<ROWS, W
         region: Region,
     ) -> M {
         let InRows(whole, rest) = self;
-        let rows = ROWS.max(1);
+        let most = ROWS.max(1);
         let mut out = out;
-        let parts = region.rows() / rows;
-        // The compiler knows how many rows these parts have, and so the lengths of their loops.
-        for part in 0..parts {
-            let row = region.row_start + part * rows;
-            out = whole.put(out, matrix, region.with_rows(row, row + rows));
-        }
-        let row = region.row_start + parts * rows;
-        if row < region.row_end {
-            return rest.put(out, matrix, region.with_rows(row, region.row_end));
+        let mut row = region.row_start;
+        while row < region.row_end {
+            let rows = most.min(region.row_end - row);
+            // If the compiler knows how many rows a part has, it knows the lengths of its loops.
+            if rows == most {
+                out = whole.put(out, matrix, region.with_rows(row, row + most));
+            } else {
+                out = rest.put(out, matrix, region.with_rows(row, row + rows));
+            }
+            row += rows;
         }
         out
     }
@@ -105,8 +106,8 @@ impl<const COLS: usize, W: PutRegion, V: PutRegion> PutRegion for InCols<COLS, W
     }
 }
 
-/// `Blocks(rest)` puts blocks of `ROWS` rows, from top to bottom. They have all columns of the region.
-/// The rows that remain are put in the way `rest`.
+/// `Blocks(rest)` puts blocks of `ROWS` rows, from top to bottom, in the holder's own way. They have
+/// all columns of the region. The rows that remain are put in the way `rest`.
 #[derive(Clone, Copy)]
 #[doc(hidden)]
 pub struct Blocks<const ROWS: usize, V>(pub V);
@@ -119,7 +120,22 @@ impl<const ROWS: usize, V: PutRegion> PutRegion for Blocks<ROWS, V> {
         matrix: Matrix<R>,
         region: Region,
     ) -> M {
-        InRows::<ROWS, _, _>(AsBlock, self.0).put(out, matrix, region)
+        let Blocks(rest) = self;
+        if region.col_start == region.col_end {
+            return out;
+        }
+        let rows = ROWS.max(1);
+        let mut out = out;
+        let parts = region.rows() / rows;
+        for part in 0..parts {
+            let row = region.row_start + part * rows;
+            out = put_as_block(out, matrix, region.with_rows(row, row + rows));
+        }
+        let row = region.row_start + parts * rows;
+        if row < region.row_end {
+            return rest.put(out, matrix, region.with_rows(row, region.row_end));
+        }
+        out
     }
 }
 
@@ -170,25 +186,6 @@ impl<W: PutRegion> PutRegion for Outlined<W> {
 }
 
 /// Puts a region as one block, in the holder's own way.
-#[derive(Clone, Copy)]
-struct AsBlock;
-
-impl PutRegion for AsBlock {
-    #[inline(always)]
-    fn put<M: Blocked, R: Ahead<Item = M::Item> + Copy>(
-        self,
-        out: M,
-        matrix: Matrix<R>,
-        region: Region,
-    ) -> M {
-        if region.row_start == region.row_end || region.col_start == region.col_end {
-            return out;
-        }
-        put_as_block(out, matrix, region)
-    }
-}
-
-/// Does the same as [`AsBlock`] for a region with items.
 #[inline(always)]
 #[doc(hidden)]
 pub fn put_as_block<M: Blocked, R: Ahead<Item = M::Item> + Copy>(

@@ -1,7 +1,20 @@
 -- Each turn of the loop puts one more column.
-use Rattle.std.proofs.Common.{◌≡◌, ℕ, ◌+◌, ◌-◌, ◌*◌, length, refl, ap, arith, ◌∙◌}
+use Rattle.std.proofs.Common.{rules, ◌≡◌, ℕ, ◌+◌, ◌-◌, ◌*◌, ◌≤◌, length, refl, ap, arith, ◌∙◌}
 use Rattle.p3_util_kernels.proofs.PlacesLemmas.Blocks.{IsBlockPut-column, rows-item, rows-long}
 use Rattle.p3_util_kernels.proofs.places.slices.put_rows.Goals as goal
+
+pub loop-col-init : goal.loop-col-init
+loop-col-init g c = let none : c.args.block.rows * 0 ≡ 0 = omega arith in
+    record { same_length = refl; places = λ r d hr h. absurd (omega (arith, h, none)); others = λ p out. refl }
+
+pub overflow_add-at-in-loop-col : goal.overflow_add-at-in-loop-col
+overflow_add-at-in-loop-col g c = omega (arith, c.requires.count, c.requires.fits.room (c.args.block.rows - 1) c.loop-col.col (omega (arith, c.requires.some)) c.loop-col-test.true, c.loop-col.invariant.same_length)
+
+pub offset_bounds-values-at : goal.offset_bounds-values-at
+offset_bounds-values-at g c =
+    let within : c.args.block.to + c.loop-col.col * c.args.block.height ≤ length c.loop-col.values =
+    omega (arith, c.requires.fits.room 0 c.loop-col.col c.requires.some c.loop-col-test.true, c.loop-col.invariant.same_length) in
+    search rules
 
 pub slice_bounds-put_column-end : goal.slice_bounds-put_column-end
 slice_bounds-put_column-end g c = omega (arith, c.requires.count, c.requires.fits.room (c.args.block.rows - 1) c.loop-col.col (omega (arith, c.requires.some)) c.loop-col-test.true, c.loop-col.invariant.same_length)

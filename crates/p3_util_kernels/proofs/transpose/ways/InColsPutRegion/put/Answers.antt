@@ -1,8 +1,29 @@
 -- Each turn of the loop puts one more part. Then follow the columns that remain.
-use Rattle.std.proofs.Common.{◌≡◌, ◌+◌, ◌-◌, ◌*◌, ◌/◌, ◌≤◌, arith}
+use Rattle.std.proofs.Common.{◌≡◌, ◌+◌, ◌-◌, ◌*◌, ◌/◌, ◌≤◌, inr, arith}
 use Rattle.std.proofs.Math.Nat.{div-mul-le_self}
-use Rattle.p3_util_kernels.proofs.TransposeLemmas.Region.{IsCut-cols, IsRegionTransposed-cols, part_inside}
+use Rattle.p3_util_kernels.specs.Region.{rows_of}
+use Rattle.p3_util_kernels.proofs.TransposeLemmas.Region.{IsCut-cols, IsRegionTransposed-cols, nothing_put, part_inside}
 use Rattle.p3_util_kernels.proofs.transpose.ways.InColsPutRegion.put.Goals as goal
+
+pub overflow_mul-col : goal.overflow_mul-col
+overflow_mul-col g c = omega (arith, part_inside c.loop-part.part c.max-cols.result c.cols.result (omega arith), c.cols.ensures)
+
+pub overflow_add-col : goal.overflow_add-col
+overflow_add-col g c = omega (arith, part_inside c.loop-part.part c.max-cols.result c.cols.result (omega arith), c.cols.ensures)
+
+pub overflow_add-col-in-loop-part : goal.overflow_add-col-in-loop-part
+overflow_add-col-in-loop-part g c = omega (arith, part_inside c.loop-part.part c.max-cols.result c.cols.result (omega arith), c.cols.ensures)
+
+pub overflow_mul-col-2 : goal.overflow_mul-col-2
+overflow_mul-col-2 g c = omega (arith, div-mul-le_self c.cols.result c.max-cols.result, c.cols.ensures)
+
+pub overflow_add-col-2 : goal.overflow_add-col-2
+overflow_add-col-2 g c = omega (arith, div-mul-le_self c.cols.result c.max-cols.result, c.cols.ensures)
+
+pub loop-part-init : goal.loop-part-init
+loop-part-init g c =
+    let none : rows_of c.args.region * (0 * c.max-cols.result) ≡ 0 = omega arith in
+    record { transposed = nothing_put _ _ _ _ _ (inr (omega arith)); holder = rw none (g.met.M.Cells.same_holder_refl _) }
 
 pub loop-part-preserved : goal.loop-part-preserved
 loop-part-preserved g c =

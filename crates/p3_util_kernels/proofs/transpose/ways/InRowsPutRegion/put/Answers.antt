@@ -1,42 +1,37 @@
--- Each turn of the loop puts one more part. Then follow the rows that remain.
-use Rattle.std.proofs.Common.{◌≡◌, ◌+◌, ◌-◌, ◌*◌, ◌/◌, ◌≤◌, arith}
-use Rattle.std.proofs.Math.Nat.{div-mul-le_self}
-use Rattle.p3_util_kernels.proofs.TransposeLemmas.Region.{IsCut-rows, IsRegionTransposed-rows, part_inside}
+-- Each turn of the loop puts one more part, in one of two ways.
+use Rattle.std.proofs.Common.{◌≡◌, ◌+◌, ◌-◌, ◌*◌, ◌∙◌, inl, ap, arith}
+use Rattle.p3_util_kernels.specs.Region.{IsRegionTransposed, cols_of, items_of}
+use Rattle.p3_util_kernels.proofs.TransposeLemmas.Region.{IsCut-rows, IsRegionTransposed-rows, nothing_put}
+use Rattle.p3_util_kernels.proofs.transpose.ways.InRowsPutRegion.put.Goals.{then-rows-most, else-rows-most}
 use Rattle.p3_util_kernels.proofs.transpose.ways.InRowsPutRegion.put.Goals as goal
 
-pub loop-part-preserved : goal.loop-part-preserved
-loop-part-preserved g c =
-    let rows = c.max-rows.result in
-    let row = c.args.region.row_start + c.loop-part.part * rows in
-    let more : c.args.region.row_start + (c.loop-part.part + 1) * rows ≡ row + rows = omega arith in
-    let inside : row + rows ≤ c.args.region.row_end = omega (arith, part_inside c.loop-part.part rows c.rows.result (omega arith), c.rows.ensures) in
-    let cut = IsCut-rows (record c.args.region { row_end = row + rows }) row (omega arith) (omega arith) in
-    let before : row - c.args.region.row_start ≡ c.loop-part.part * rows = omega arith in
-    let after : row + rows - c.args.region.row_start ≡ (c.loop-part.part + 1) * rows = omega arith in
+pub loop-row-init : goal.loop-row-init
+loop-row-init g c =
+    let same : c.args.region.row_start - c.args.region.row_start ≡ 0 = omega arith in
+    let none : (c.args.region.row_start - c.args.region.row_start) * cols_of c.args.region ≡ 0 = ap (λ n. n * cols_of c.args.region) same ∙ omega arith in
+    record { from = omega arith; to = omega arith; transposed = nothing_put _ _ _ _ _ (inl (omega arith)); holder = rw none (g.met.M.Cells.same_holder_refl _) }
+
+pub loop-row-preserved : goal.loop-row-preserved
+loop-row-preserved g c =
+    let next = c.loop-row.row + c.min-rows.result in
+    let done = record c.args.region { row_end = next } in
+    let part = record done { row_start = c.loop-row.row } in
+    let input = g.R.Source.items c.args.matrix.source in
+    let put : (IsRegionTransposed part c.args.matrix.width c.args.matrix.height input (g.M.Cells.items c.loop-row.out) (g.M.Cells.items c.if-rows-most.out))
+    × (g.M.Cells.same_holder (items_of part) c.loop-row.out c.if-rows-most.out) =
+    elim c.if-rows-most.branch [
+      | then-rows-most w ↦
+          let all : c.max-most.result ≡ c.min-rows.result = omega (arith, w.if-rows-most.true) in
+          rw w.out-is (rw (w.with_rows.ensures, all) at w.put-out.ensures.transposed, rw (w.with_rows.ensures, all) at w.put-out.ensures.holder)
+      | else-rows-most w ↦
+          rw w.out-is (rw w.with_rows-else-rows-most.ensures at w.put-out-else-rows-most.ensures.transposed, rw w.with_rows-else-rows-most.ensures at w.put-out-else-rows-most.ensures.holder)
+    ] in
     record {
-      transposed = rw more (IsRegionTransposed-rows c.args.region _ _ _ _ _ _ row (row + rows) (omega arith) (omega arith) (omega arith)
-          c.loop-part.invariant.transposed (rw c.with_rows.ensures at c.put-out.ensures.transposed));
-      holder = g.met.M.Cells.same_holder_trans _ _ _ _ _ _ c.loop-part.invariant.holder (rw c.with_rows.ensures at c.put-out.ensures.holder) (rw (before, after) at cut.items);
+      from = omega arith;
+      to = omega arith;
+      transposed = IsRegionTransposed-rows c.args.region _ _ input _ _ _ c.loop-row.row next (omega arith) (omega arith) (omega arith) c.loop-row.invariant.transposed put.0;
+      holder = g.met.M.Cells.same_holder_trans _ (items_of part) _ _ _ _ c.loop-row.invariant.holder put.1 (IsCut-rows done c.loop-row.row (omega arith) (omega arith)).items;
     }
 
-pub returns-then-row-region-clause-transposed : goal.returns-then-row-region-clause-transposed
-returns-then-row-region-clause-transposed g c =
-    let done : c.loop-part.part ≡ c.rows.result / c.max-rows.result = omega arith in
-    IsRegionTransposed-rows c.args.region _ _ _ _ _ _ _ c.args.region.row_end (omega arith) (omega arith) (omega arith)
-    (rw done at c.loop-part.invariant.transposed) (rw c.with_rows-then-row-region.ensures at c.put.ensures.transposed)
-
-pub returns-then-row-region-clause-holder : goal.returns-then-row-region-clause-holder
-returns-then-row-region-clause-holder g c =
-    let done : c.loop-part.part ≡ c.rows.result / c.max-rows.result = omega arith in
-    let put = c.rows.result / c.max-rows.result * c.max-rows.result in
-    let row = c.args.region.row_start + put in
-    let before : row - c.args.region.row_start ≡ put = omega arith in
-    g.met.M.Cells.same_holder_trans _ _ _ _ _ _ (rw done at c.loop-part.invariant.holder) (rw c.with_rows-then-row-region.ensures at c.put.ensures.holder)
-    (rw before at (IsCut-rows c.args.region row (omega arith) (omega arith)).items)
-
 pub returns-clause-transposed : goal.returns-clause-transposed
-returns-clause-transposed g c =
-    let done : c.loop-part.part ≡ c.rows.result / c.max-rows.result = omega arith in
-    let end : c.args.region.row_start + c.loop-part.part * c.max-rows.result ≡ c.args.region.row_end =
-    rw done (omega (arith, c.rows.ensures, div-mul-le_self c.rows.result c.max-rows.result)) in
-    rw end at c.loop-part.invariant.transposed
+returns-clause-transposed g c = let end : c.loop-row.row ≡ c.args.region.row_end = omega arith in rw end at c.loop-row.invariant.transposed
