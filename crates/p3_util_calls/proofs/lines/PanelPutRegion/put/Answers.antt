@@ -1,5 +1,5 @@
 -- Each turn of the loop puts all columns one line further.
-use Rattle.std.proofs.Common.{◌≡◌, ℕ, ◌+◌, ◌-◌, ◌<◌, ◌≤◌, bit_and, inl, inr, refl, sym, ◌∙◌, arith}
+use Rattle.std.proofs.Common.{◌≡◌, ℕ, ◌-◌, bit_and, arith}
 use Rattle.p3_util_calls.specs.Lines.{items_to, limit}
 use Rattle.p3_util_kernels.specs.Region.{items_of}
 use Rattle.p3_util_calls.proofs.LinesLemmas.{IsPutTo-all, IsPutTo-none, items_to-all, items_to-none, limit-all, limit-none}

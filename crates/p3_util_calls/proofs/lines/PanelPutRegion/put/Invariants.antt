@@ -1,4 +1,4 @@
-use Rattle.std.proofs.Common.{◌+◌, ◌-◌, ◌≤◌}
+use Rattle.std.proofs.Common.{◌+◌, ◌-◌}
 use Rattle.p3_util_calls.specs.Lines.{IsPutTo, items_to, limit}
 use Rattle.p3_util_kernels.specs.Region.{rows_of}
 use Rattle.p3_util_calls.proofs.lines.PanelPutRegion.put.Given as goal
