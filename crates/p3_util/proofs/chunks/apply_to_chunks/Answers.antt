@@ -1,7 +1,7 @@
 -- The calls on all pieces: by the lemmas on `Cuts`.
 use denote.Param.Always.{mut_next}
 use Rattle.std.proofs.Common.{◌≡◌, ap, ◌∙◌, length, take, refl, arith, ◌<◌}
-use Rattle.std.proofs.lemmas.List.{length-take-le, take_all}
+use Rattle.std.proofs.lemmas.List.{length-take-le}
 use Rattle.p3_util.proofs.PiecesLemmas.{joined-pieces}
 use Rattle.p3_util.proofs.WholePieces.{folds-more, folds-all, Cuts-start, Cuts-more, calls-whole}
 use Rattle.p3_util.proofs.chunks.apply_to_chunks.Goals.{then-len-eq0, else-len-eq0+then-len}
@@ -17,8 +17,8 @@ pub loop-buf-preserved : goal.loop-buf-preserved
 loop-buf-preserved g c =
     let filled = c.fill-len.ensures in
     let full : c.fill-len.result ≡ g.row.BUFLEN = omega (arith, filled.within, c.if-len.false) in
-    let all : take c.fill-len.result c.fill-len.new.buf ≡ c.fill-len.new.buf = take_all c.fill-len.result c.fill-len.new.buf (omega (arith, full, filled.long)) in (
-      Cuts-more c.loop-buf.invariant.0 (omega (arith, c.if-this-eq0.false)) filled.long (filled.full full) (record { shown = _; shows = ap (take c.fill-len.result) c.as_slice.ensures ∙ all; called = c.func.ensures }),
+    let long : length (take c.fill-len.result c.fill-len.new.buf) ≡ g.row.BUFLEN = length-take-le c.fill-len.result c.fill-len.new.buf (omega (arith, full, filled.long)) ∙ full in (
+      Cuts-more c.loop-buf.invariant.0 (omega (arith, c.if-this-eq0.false)) long (filled.full full) (record { shown = _; shows = ap (take c.fill-len.result) c.as_slice.ensures; called = c.func.ensures }),
       mut_next g.H.FnMut _ _ _ _ _ c.func.ensures refl c.loop-buf.invariant.1,
       filled.can full,
       (filled.fewer full).0,
