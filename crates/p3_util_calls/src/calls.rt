@@ -2,7 +2,6 @@
 //! [`choice`](crate::choice) chooses, each function here does what its name says: its contract is that of the kernel.
 
 ghost use Rattle.std.specs.Prelude.{◌≡◌, ◌≢◌, ℕ, ◌*◌, ◌^◌, ◌<◌, length, slice_get};
-ghost use Rattle.p3_util_kernels.specs.Columns.{HoldsColumn, IsColumnPut};
 ghost use Rattle.p3_util_kernels.specs.Region.{IsReady, IsRegionTransposed, items_of};
 ghost use Rattle.p3_util_kernels.specs.Reversal.{FitsRows, IsRowReversal};
 ghost use Rattle.p3_util_kernels.specs.SwapCounts.{row_swaps};
@@ -15,7 +14,7 @@ use crate::choice::{
 use crate::lines::Lines;
 use p3_util_kernels::kernel::{
     Ahead, Blocked, Blocks, Columns, InCols, InRows, LARGE_MATRIX, Matrix, Order, Outlined,
-    PutRegion, RowDigits, ShortColumns, Tiled, UNIT, put_as_block,
+    PutColumn, PutRegion, RowDigits, ShortColumns, Tiled, UNIT, put_as_block,
 };
 use p3_util_kernels::places::{Cells, Source};
 use p3_util_kernels::transpose::Region;
@@ -297,52 +296,28 @@ fn put_streamed<M: Output, R: Ahead<Item = M::Item> + Copy>(
     }
 }
 
-/// Puts a region of long items column after column. A build without optimization has copies of an item on the stack in each
-/// function that the item goes through. So it goes through [`put_item`] alone.
+/// Puts a column of long items. A build without optimization has copies of an item on the stack in each function that the item
+/// goes through. So it goes through [`put_item`] alone.
 #[derive(Clone, Copy)]
 struct LongColumns;
 
-impl PutRegion for LongColumns {
-    fn put<M: Blocked, R: Ahead<Item = M::Item> + Copy>(
+impl PutColumn for LongColumns {
+    fn put_column<M: Blocked, R: Ahead<Item = M::Item> + Copy>(
         self,
         out: M,
         matrix: Matrix<R>,
-        region: Region,
+        from: usize,
+        to: usize,
+        rows: usize,
     ) -> M {
-        if region.row_start == region.row_end {
-            // A region without rows has no item, however many columns it has.
-            return out;
-        }
         let mut out = out;
-        for col in region.col_start..region.col_end {
-            let from = region.row_start * matrix.width + col;
-            let to = col * matrix.height + region.row_start;
-            out = put_long_column(out, matrix, from, to, region.rows());
+        let mut t = 0;
+        while t < rows {
+            put_item(&mut out, matrix.source, from + t * matrix.width, to + t);
+            t += 1;
         }
         out
     }
-}
-
-/// Puts a column of `rows` items into consecutive cells from `to` on. The column begins at index `from` of the source.
-fn put_long_column<M: Cells, R: Source<Item = M::Item> + Copy>(
-    out: M,
-    matrix: Matrix<R>,
-    from: usize,
-    to: usize,
-    rows: usize,
-) -> M
-    requires column { HoldsColumn rows from matrix.width to (R.items matrix.source) (M.items out) }
-    ensures put { IsColumnPut rows from matrix.width to (R.items matrix.source) (M.items out)
-        (M.items result) }
-    ensures holder { M.same_holder rows out result }
-{
-    let mut out = out;
-    let mut t = 0;
-    while t < rows {
-        put_item(&mut out, matrix.source, from + t * matrix.width, to + t);
-        t += 1;
-    }
-    out
 }
 
 /// Puts the item at index `from` of a source into cell `to`.

@@ -17,5 +17,6 @@ pub use crate::transpose::regions::Matrix;
 pub use crate::transpose::strips::{HIGH_ROWS, Strips, UNIT};
 #[doc(hidden)]
 pub use crate::transpose::ways::{
-    Blocks, Columns, InCols, InRows, Outlined, PutRegion, RowBlocks, ShortColumns, put_as_block,
+    Blocks, Columns, InCols, InRows, Outlined, PutColumn, PutRegion, RowBlocks, ShortColumns,
+    put_as_block,
 };

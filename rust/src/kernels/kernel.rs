@@ -10,5 +10,6 @@ pub(crate) use crate::kernels::transpose::order::{LARGE_MATRIX, Order, TINY_MATR
 pub(crate) use crate::kernels::transpose::regions::Matrix;
 pub(crate) use crate::kernels::transpose::strips::{HIGH_ROWS, Strips, UNIT};
 pub(crate) use crate::kernels::transpose::ways::{
-    Blocks, Columns, InCols, InRows, Outlined, PutRegion, RowBlocks, ShortColumns, put_as_block,
+    Blocks, Columns, InCols, InRows, Outlined, PutColumn, PutRegion, RowBlocks, ShortColumns,
+    put_as_block,
 };

@@ -1,6 +1,6 @@
 use Rattle.std.proofs.Common.{◌-◌, ◌≤◌}
 use Rattle.p3_util_kernels.specs.Columns.{IsColumnPut}
-use Rattle.p3_util_calls.proofs.calls.put_long_column.Given as goal
+use Rattle.p3_util_calls.proofs.calls.LongColumnsPutColumn.put_column.Given as goal
 
 -- the first t items of the column are put
 abbrev pub invariant-loop-t : goal.invariant-loop-t
