@@ -2,8 +2,8 @@
 //! a step of `Places`, `Cells` or `Source` says. It trusts that each call of a step meets the step's precondition. The
 //! kernels are proved to do so. Only this folder can make a holder.
 //!
-//! With debug assertions, an item is moved as its type says, and there is no fence. Often such a build is not optimized.
-//! Then parts of an item and fences would take several times as long, and so would `add`, which is a call there.
+//! With debug assertions, an item is moved as its type says, and there is no `compiler_fence`. Often such a build is not
+//! optimized. Then parts of an item and fences would take several times as long, and so would `add`, which is a call there.
 
 use core::marker::PhantomData;
 use core::ptr;
@@ -47,13 +47,12 @@ pub(super) struct SliceItems<'a, T, D = Two<()>> {
     slice: PhantomData<(&'a mut [T], D)>,
 }
 
-/// The registers of some items.
-type Vectors<'a> = SliceItems<'a, Bytes<16>, Two<Vector>>;
-
 /// No register: items are moved one by one.
 impl<T> Single<T> for () {}
 
-// SAFETY: a `SliceItems` is made from a `&mut [T]`, and may do to the items only what that reference may do.
+// SAFETY: a holder that parts share is made from a `&mut [T]`, and may do to the items only what that reference may do. No two
+// parts change the same place. A holder of bytes is `Send` and `Sync` even if the items are not, but it never leaves the call or
+// the part that makes it.
 unsafe impl<T: Send> Send for SliceItems<'_, T> {}
 
 // SAFETY: a method that takes a `&SliceItems` writes nothing, and what it reads is `T`, which is `Sync`. So the same parts are
@@ -221,7 +220,7 @@ impl<F, D: Register<F>> Tiled for SliceItems<'_, F, D> {
         }
         for row in x.into_iter().chain(y) {
             let row = self.first.wrapping_add(row).cast::<u8>();
-            for byte in (0..8 * size).step_by(64) {
+            for byte in (0..8 * size).step_by(LINE) {
                 cache::prefetch(row.wrapping_add(byte));
             }
             // A row seldom begins at the start of a line, so its end is in one line more. Without that line, items
@@ -296,7 +295,7 @@ impl<T: Copy, D: Register<T>> SquaresOfCells<T, D> for SliceItems<'_, T, D> {
 }
 
 /// Whether half a register `D` has the bytes of a run, so that a step reads or writes all of the run and nothing else. The half
-/// `()` has none.
+/// `()` has no bytes: with it, a step would do nothing, and a kernel makes none. Its squares have one row, and it fills no line.
 const fn fills_a_run<T, D: Register<T>>() -> bool {
     size_of::<D::Half>() == D::SIDE * size_of::<T>() || size_of::<D::Half>() == 0
 }
@@ -348,10 +347,9 @@ impl<T: Copy, D: Register<T>> Cells for PastCaches<'_, T, D> {
             return self.0.put(i, v);
         }
         let item = SliceSource::new(from_ref(&v)).in_bytes::<16>();
-        let mut cells = PastCaches(Vectors::of(self.0.first.cast(), self.0.len * parts));
+        let mut cells = PastCaches::<Bytes<16>, Two<Vector>>(SliceItems::of(self.0.first.cast(), self.0.len * parts));
         for part in 0..parts {
-            let run = Loads::<_, Two<Vector>>::load(&item, part);
-            Runs::<_, Two<Vector>>::stream(&mut cells, i * parts + part, run);
+            cells.stream(i * parts + part, Loads::<_, Two<Vector>>::load(&item, part));
         }
     }
 }
@@ -399,8 +397,8 @@ impl<T, D: Register<T>> Runs<T, D> for PastCaches<'_, T, D> {
         let to = self.0.first.wrapping_add(place);
         debug_assert!(place <= self.0.len && D::SIDE <= self.0.len - place);
         debug_assert!(size_of::<D::Half>() == 16 && to.addr() % 16 == 0);
-        // SAFETY: a run is a register here. The holder `may_stream` it, by the `requires` of `Runs::stream`: the method
-        // `may_stream_lines` tests that.
+        // SAFETY: a run is a register here. The holder `may_stream` it, by the `requires` of `Runs::stream`: the methods
+        // `may_stream_lines` and `put` test that.
         unsafe {
             let run: Vector = core::mem::transmute_copy(&run);
             core::arch::asm!("movntdq [{}], {}", in(reg) to, in(xmm_reg) run, options(nostack, preserves_flags))
@@ -461,7 +459,7 @@ impl<T, D: Register<T>> Loads<T, D> for SliceSource<'_, T> {
     fn load(&self, place: usize) -> D::Half {
         const { assert!(fills_a_run::<T, D>()) }
         debug_assert!(place <= self.items.len() && D::SIDE <= self.items.len() - place);
-        // SAFETY: as in that of `SliceItems`.
+        // SAFETY: as for `SliceItems`.
         unsafe { (*self.items.as_ptr().wrapping_add(place).cast::<Unaligned<D::Half>>()).0 }
     }
 }

@@ -34,7 +34,7 @@ pub(super) struct Unaligned<P>(pub(super) P);
 ///
 /// # Safety
 ///
-/// `to` is valid for writes of an item.
+/// `to` is valid for writes of an item, and aligned.
 #[inline(always)]
 pub(super) unsafe fn write_item<T>(to: *mut T, item: T) {
     // SAFETY: this is what the caller promises, and a copy of the item is only read.

@@ -60,7 +60,7 @@ pub(crate) struct Items<const N: usize>(Vector);
 /// The two halves of a register.
 #[inline(always)]
 fn halves_of(register: &mut Vector) -> &mut [Half; 2] {
-    // SAFETY: they are the register's bytes, which may be unwritten, and need a smaller alignment.
+    // SAFETY: they are the register's bytes, which may be unwritten, and need no greater alignment.
     unsafe { &mut *register.as_mut_ptr().cast() }
 }
 
