@@ -132,10 +132,8 @@ pub use bits::{log2_strict_usize, log3_strict_usize, reverse_bits, reverse_bits_
 #[doc(inline)]
 pub use kernels::chunks::apply_to_chunks;
 #[cfg(target_pointer_width = "64")]
-#[doc(inline)]
 #[doc(alias("rayon", "threads"))]
 pub use slices::parts;
-#[doc(inline)]
 #[doc(alias("bit_reversal", "bit_reverse_permutation", "matrix", "ntt", "reverse"))]
 pub use slices::{reverse_slice_index_bits, reverse_slice_row_index_bits};
 

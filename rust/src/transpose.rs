@@ -1,6 +1,5 @@
 //! Transposes of matrices that are stored as flat slices, row after row.
 
-#[doc(inline)]
 #[doc(alias = "matrix")]
 pub use crate::slices::transpose;
 
