@@ -389,6 +389,19 @@ fn puts_and_reads() {
 #[repr(align(64))]
 struct Aligned<T>([T; 600]);
 
+/// A block of items whose rows begin at `from`, `width` places apart, and whose columns are put from `to` on, `height` places apart.
+#[cfg(not(feature = "checked"))]
+pub(super) fn block([rows, cols]: [usize; 2], [from, width]: [usize; 2], [to, height]: [usize; 2]) -> Block {
+    Block {
+        rows,
+        cols,
+        from,
+        width,
+        to,
+        height,
+    }
+}
+
 /// Puts a block by a holder.
 #[cfg(any(debug_assertions, all(target_os = "linux", not(feature = "checked"))))]
 pub(super) fn put_block<T: Copy, H: Put<T>>(cells: &mut [T], source: &[T], block: Block) {
@@ -416,15 +429,7 @@ fn blocks_of_lines() {
         let mut list = Aligned([[MaybeUninit::new(0); N]; 600]);
         for (to, height) in (0..=2 * line).flat_map(|to| (line - 2..=3 * line).map(move |height| (to, height))) {
             for cols in [1, 2, line] {
-                let (rows, from, width) = (line, 0, line);
-                let block = Block {
-                    rows,
-                    cols,
-                    from,
-                    width,
-                    to,
-                    height,
-                };
+                let block = block([line, cols], [0, line], [to, height]);
                 let is_line = to % line == 0 && (cols == 1 || height % line == 0);
                 let cells = PastCaches(SliceItems::new(&mut list.0).in_registers::<D>());
                 assert_eq!(cells.may_stream_lines(block), is_line, "{cols} {to} {height}");

@@ -151,16 +151,7 @@ fn squares<const N: usize, H: Put<[u8; N]>>(ends_with_page: bool) {
     for side in [1, 2, 3, 4, 5, 8, 16] {
         let mut source = Runs::<N>::new(side, side, ends_with_page);
         let mut cells = Runs::<N>::new(side, side, ends_with_page);
-        let (from, width, to, height) = (0, GAP, 0, GAP);
-        let block = Block {
-            rows: side,
-            cols: side,
-            from,
-            width,
-            to,
-            height,
-        };
-        put_block::<_, H>(cells.list(), source.list(), block);
+        put_block::<_, H>(cells.list(), source.list(), block([side, side], [0, GAP], [0, GAP]));
         cells.has(|run, k| (k, run));
         source.has(|run, k| (run, k));
     }
@@ -189,16 +180,7 @@ fn columns_off_a_line<const N: usize>(ends_with_page: bool, put: impl Fn(&mut [[
     for (rows, to, more) in more_rows.chain([(line, 0, 0)]) {
         let mut source = Runs::<N>::new(rows + more, 1, ends_with_page);
         let mut cells = Runs::<N>::new(1, 2 * line, false);
-        let (cols, from, width, height) = (1, 0, GAP, 2 * line);
-        let block = Block {
-            rows,
-            cols,
-            from,
-            width,
-            to,
-            height,
-        };
-        put(cells.list(), source.list(), block);
+        put(cells.list(), source.list(), block([rows, 1], [0, GAP], [to, 2 * line]));
         cells.has(|_, k| match k.checked_sub(to) {
             Some(row) if row < rows => (row, 0),
             _ => (0, k),
@@ -212,16 +194,7 @@ fn lines<const N: usize, D: Register<Bytes<N>>>(ends_with_page: bool) {
     for cols in [1, rows] {
         let mut source = Runs::<N>::new(rows, cols.max(16 / N), ends_with_page);
         let mut cells = Runs::<N>::new(cols, rows, ends_with_page);
-        let (from, width, to, height) = (0, GAP, 0, GAP);
-        let block = Block {
-            rows,
-            cols,
-            from,
-            width,
-            to,
-            height,
-        };
-        put_past_caches::<N, D>(cells.list(), source.list(), block);
+        put_past_caches::<N, D>(cells.list(), source.list(), block([rows, cols], [0, GAP], [0, GAP]));
         cells.has(|run, k| (k, run));
         source.has(|run, k| (run, k));
     }
@@ -273,18 +246,8 @@ fn hints_read_nothing() {
         source.expect(i);
     }
     // The cells right of the last column, and below its last row, are in no list either.
-    #[cfg(not(feature = "checked"))]
     for (to, height) in [(0, 1), (1, GAP), (GAP, 0), (GAP, GAP), (GAP - 3, 1), (GAP - 12, 4)] {
-        let (rows, cols, from, width) = (4, 4, 0, 4);
-        let square = Block {
-            rows,
-            cols,
-            from,
-            width,
-            to,
-            height,
-        };
-        SliceItems::new(runs.list()).expect_columns(square);
+        SliceItems::new(runs.list()).expect_columns(block([4, 4], [0, 4], [to, height]));
     }
 }
 
