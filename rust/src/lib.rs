@@ -103,8 +103,6 @@ mod bits;
 /// assert_eq!(list[..12], [0, 1, 9, 3, 1, 5, 16, 7, 4, 9, 25, 11]);
 /// ```
 #[allow(clippy::len_without_is_empty, reason = "a kernel asks a holder for its length alone")]
-#[allow(clippy::manual_is_multiple_of, reason = "the proofs are of `%`")]
-#[allow(clippy::needless_range_loop, reason = "a tile is reached by row and column")]
 #[allow(clippy::only_used_in_recursion, reason = "by the bound, a recursion ends")]
 #[cfg_attr(
     any(feature = "checked", target_pointer_width = "32"),
