@@ -66,22 +66,10 @@ fn short_lengths() {
             assert_eq!(panics(|| assert_eq!(reverse_bits(x, n), wanted)), is_refused, "{x} {n}");
         }
     }
-    fn has_indices<const N: usize>() {
-        assert!(indices_arr::<N>().into_iter().eq(0..N), "{N}");
+    macro_rules! have_indices {
+        ($($len:literal)*) => { $(assert!(indices_arr::<$len>().into_iter().eq(0..$len));)* };
     }
-    let of_each_length: [fn(); 10] = [
-        has_indices::<0>,
-        has_indices::<1>,
-        has_indices::<2>,
-        has_indices::<3>,
-        has_indices::<4>,
-        has_indices::<5>,
-        has_indices::<6>,
-        has_indices::<7>,
-        has_indices::<8>,
-        has_indices::<9>,
-    ];
-    of_each_length.into_iter().for_each(|check| check());
+    have_indices!(0 1 2 3 4 5 6 7 8 9);
 }
 
 const ROWS: usize = 1 << 5;
