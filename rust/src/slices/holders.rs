@@ -41,7 +41,10 @@ mod tests;
 ///
 /// Tiles and blocks of items are transposed in registers `D`, each of which is two rows of a square, if these have more than
 /// one item.
-pub(super) struct SliceItems<'a, T, D = Two<()>> {
+///
+/// If `PAST_CACHES` is true, whole cache lines and long items are stored past the caches. [`SliceItems::put_past_caches`] makes such a
+/// holder, and a fence follows.
+pub(super) struct SliceItems<'a, T, D = Two<()>, const PAST_CACHES: bool = false> {
     first: *mut T,
     len: usize,
     slice: PhantomData<(&'a mut [T], D)>,
@@ -59,7 +62,7 @@ unsafe impl<T: Send> Send for SliceItems<'_, T> {}
 // `Sync` as with the feature `checked`.
 unsafe impl<T: Sync> Sync for SliceItems<'_, T> {}
 
-impl<'a, T, D> SliceItems<'a, T, D> {
+impl<'a, T, D, const PAST_CACHES: bool> SliceItems<'a, T, D, PAST_CACHES> {
     /// The `len` items from `first` on. Whoever uses the holder has borrowed them.
     #[inline(always)]
     fn of(first: *mut T, len: usize) -> Self {
@@ -100,6 +103,13 @@ impl<'a, T> SliceItems<'a, T> {
     }
 }
 
+impl<'a, T, D> SliceItems<'a, T, D> {
+    #[inline(always)]
+    pub(super) fn past_caches(self) -> SliceItems<'a, T, D, true> {
+        SliceItems::of(self.first, self.len)
+    }
+}
+
 impl<T> Shared for SliceItems<'_, T> {
     /// The same items. No two parts of a call change the same place.
     fn share(&mut self) -> Self {
@@ -134,9 +144,9 @@ impl<T: Copy, D: Register<T>> Output for SliceItems<'_, T, D> {
         matrix: Matrix<R>,
         region: Region,
     ) -> Self {
-        let PastCaches(cells) = way.put(PastCaches(self), matrix, region);
+        let cells = way.put(self.past_caches(), matrix, region);
         cache::fence();
-        cells
+        SliceItems::of(cells.first, cells.len)
     }
 }
 
@@ -235,16 +245,28 @@ impl<F, D: Register<F>> RunsOfPlaces<F, D> for SliceItems<'_, F, D> {}
 /// A list of at least this many bytes does not fit in a cache.
 const FAR_BYTES: usize = 1 << 23;
 
-impl<T: Copy, D: Register<T>> Cells for SliceItems<'_, T, D> {
+impl<T: Copy, D: Register<T>, const PAST_CACHES: bool> Cells for SliceItems<'_, T, D, PAST_CACHES> {
     type Item = T;
 
     fn len(&self) -> usize {
         self.len
     }
 
+    /// Past the caches, stores an item of two or more whole registers register by register, if it is aligned. A shorter one that is
+    /// put by itself is in no whole line.
     #[inline(always)]
     fn put(&mut self, i: usize, v: T) {
         debug_assert!(i < self.len);
+        if const { PAST_CACHES && size_of::<T>() >= 32 && size_of::<T>() % 16 == 0 } && self.first.addr() % 16 == 0 {
+            let item = SliceSource::new(from_ref(&v)).in_bytes::<16>();
+            let parts = item.items.len();
+            let mut cells = SliceItems::<Bytes<16>, Two<Vector>, true>::of(self.first.cast(), self.len * parts);
+            for part in 0..parts {
+                let run = Loads::<_, Two<Vector>>::load(&item, part);
+                Runs::<_, Two<Vector>>::stream(&mut cells, i * parts + part, run);
+            }
+            return;
+        }
         let cell = self.first.wrapping_add(i);
         // SAFETY: the cell is within the slice, by the `requires` of `Cells::put`.
         unsafe {
@@ -262,19 +284,27 @@ impl<T: Copy, D: Register<T>> Cells for SliceItems<'_, T, D> {
     }
 }
 
-impl<T: Copy, D: Register<T>> Blocked for SliceItems<'_, T, D> {
+impl<T: Copy, D: Register<T>, const PAST_CACHES: bool> Blocked for SliceItems<'_, T, D, PAST_CACHES> {
     #[cfg_attr(debug_assertions, inline(never))]
     #[cfg_attr(not(debug_assertions), inline(always))]
     fn put_block<R: Ahead<Item = T>>(&mut self, source: &R, block: Block) {
         let runs = SliceSource::new(source.as_slice().expect("a whole slice"));
-        put_block_in_squares(self, &runs, source, block);
+        if PAST_CACHES {
+            put_block_in_lines(self, &runs, source, block);
+        } else {
+            put_block_in_squares(self, &runs, source, block);
+        }
     }
 }
 
-impl<T: Copy, D: Register<T>> RunsOfCells<T, D> for SliceItems<'_, T, D> {}
+impl<T: Copy, D: Register<T>, const PAST_CACHES: bool> RunsOfCells<T, D> for SliceItems<'_, T, D, PAST_CACHES> {}
 
-impl<T: Copy, D: Register<T>> SquaresOfCells<T, D> for SliceItems<'_, T, D> {
-    const SQUARE: usize = if D::SIDE > 1 { Self::SIDE } else { 1 };
+impl<T: Copy, D: Register<T>, const PAST_CACHES: bool> SquaresOfCells<T, D> for SliceItems<'_, T, D, PAST_CACHES> {
+    const SQUARE: usize = if D::SIDE > 1 {
+        <SliceItems<T, D> as Output>::SIDE
+    } else {
+        1
+    };
 
     /// Prefetches the next cache line of each column of a square of 4 by 4. The processor makes its stores in order, so a store
     /// that waits for its cache line delays all stores after it. The places may be outside. No reference is made to them.
@@ -301,12 +331,12 @@ const fn fills_a_run<T, D: Register<T>>() -> bool {
 }
 
 /// Runs of the items, which fill half a register `D`. Here a run `may` be read and written if all of it is among the places
-/// of the step that is made, which are within the list by the precondition of the step's method. A holder of the type
-/// [`PastCaches`] `may_stream` it if it also begins at a multiple of 16 bytes, and a fence follows before the call or the part
+/// of the step that is made, which are within the list by the precondition of the step's method. A holder with
+/// `PAST_CACHES` `may_stream` it if it also begins at a multiple of 16 bytes, and a fence follows before the call or the part
 /// ends. A run of a source `may` be anywhere in the list. The functions of `kernels/registers.rs` are proved to touch no other
 /// run, whatever `may` and `may_stream` are. So that method may call them if it names no place but those of its step, and no
 /// run that ends after the source.
-impl<T, E, D: Register<T>> Loads<T, D> for SliceItems<'_, T, E> {
+impl<T, E, D: Register<T>, const PAST_CACHES: bool> Loads<T, D> for SliceItems<'_, T, E, PAST_CACHES> {
     #[inline(always)]
     fn load(&self, place: usize) -> D::Half {
         const { assert!(fills_a_run::<T, D>()) }
@@ -317,75 +347,13 @@ impl<T, E, D: Register<T>> Loads<T, D> for SliceItems<'_, T, E> {
     }
 }
 
-impl<T, E, D: Register<T>> Runs<T, D> for SliceItems<'_, T, E> {
+impl<T, E, D: Register<T>, const PAST_CACHES: bool> Runs<T, D> for SliceItems<'_, T, E, PAST_CACHES> {
     #[inline(always)]
     fn store(&mut self, place: usize, run: D::Half) {
         const { assert!(fills_a_run::<T, D>()) }
         debug_assert!(place <= self.len && D::SIDE <= self.len - place);
         // SAFETY: the run `may` be written, by the `requires` of `Runs::store`, and the half has the bytes of items.
         unsafe { *self.first.wrapping_add(place).cast() = Unaligned(run) }
-    }
-}
-
-/// The same cells, of which whole cache lines and long items are stored past the caches. [`SliceItems::put_past_caches`] makes one,
-/// and a fence follows.
-pub(super) struct PastCaches<'a, T, D>(pub(super) SliceItems<'a, T, D>);
-
-impl<T: Copy, D: Register<T>> Cells for PastCaches<'_, T, D> {
-    type Item = T;
-
-    fn len(&self) -> usize {
-        self.0.len
-    }
-
-    /// Stores an item of two or more whole registers past the caches, register by register, if it is aligned. A shorter one that is
-    /// put by itself is in no whole line.
-    #[inline(always)]
-    fn put(&mut self, i: usize, v: T) {
-        let parts = size_of::<T>() / size_of::<Vector>();
-        if const { size_of::<T>() < 32 || size_of::<T>() % 16 != 0 } || self.0.first.addr() % 16 != 0 {
-            return self.0.put(i, v);
-        }
-        let item = SliceSource::new(from_ref(&v)).in_bytes::<16>();
-        let mut cells = PastCaches::<Bytes<16>, Two<Vector>>(SliceItems::of(self.0.first.cast(), self.0.len * parts));
-        for part in 0..parts {
-            cells.stream(i * parts + part, Loads::<_, Two<Vector>>::load(&item, part));
-        }
-    }
-}
-
-impl<T: Copy, D: Register<T>> Blocked for PastCaches<'_, T, D> {
-    #[cfg_attr(debug_assertions, inline(never))]
-    #[cfg_attr(not(debug_assertions), inline(always))]
-    fn put_block<R: Ahead<Item = T>>(&mut self, source: &R, block: Block) {
-        let runs = SliceSource::new(source.as_slice().expect("a whole slice"));
-        put_block_in_lines(self, &runs, source, block);
-    }
-}
-
-impl<T: Copy, D: Register<T>> RunsOfCells<T, D> for PastCaches<'_, T, D> {}
-
-impl<T: Copy, D: Register<T>> LinesOfCells<T, D> for PastCaches<'_, T, D> {
-    /// Each column of the block has to be a line of the output. It has four runs, by the `requires` of this method.
-    #[inline(always)]
-    fn may_stream_lines(&self, block: Block) -> bool {
-        let first = self.0.first.wrapping_add(block.to).addr();
-        let distance = block.height.wrapping_mul(size_of::<T>()) * usize::from(block.cols > 1);
-        4 * size_of::<D::Half>() == LINE && (first | distance) % LINE == 0
-    }
-}
-
-impl<T, D: Register<T>> Loads<T, D> for PastCaches<'_, T, D> {
-    #[inline(always)]
-    fn load(&self, place: usize) -> D::Half {
-        Loads::<T, D>::load(&self.0, place)
-    }
-}
-
-impl<T, D: Register<T>> Runs<T, D> for PastCaches<'_, T, D> {
-    #[inline(always)]
-    fn store(&mut self, place: usize, run: D::Half) {
-        Runs::<T, D>::store(&mut self.0, place, run);
     }
 
     /// Writes a register past the caches: its cache line is not read first. `_mm_stream_si128` takes a number, whose bytes all have
@@ -394,15 +362,25 @@ impl<T, D: Register<T>> Runs<T, D> for PastCaches<'_, T, D> {
     #[cfg(all(target_arch = "x86_64", target_feature = "sse2", not(ordinary_stores)))]
     #[inline(always)]
     fn stream(&mut self, place: usize, run: D::Half) {
-        let to = self.0.first.wrapping_add(place);
-        debug_assert!(place <= self.0.len && D::SIDE <= self.0.len - place);
+        let to = self.first.wrapping_add(place);
+        debug_assert!(place <= self.len && D::SIDE <= self.len - place);
         debug_assert!(size_of::<D::Half>() == 16 && to.addr() % 16 == 0);
-        // SAFETY: a run is a register here. The holder `may_stream` it, by the `requires` of `Runs::stream`: the methods
-        // `may_stream_lines` and `put` test that.
+        // SAFETY: a run is a register here. A holder with `PAST_CACHES` `may_stream` it, by the `requires` of `Runs::stream`: the
+        // methods `may_stream_lines` and `put` test its address.
         unsafe {
             let run: Vector = core::mem::transmute_copy(&run);
             core::arch::asm!("movntdq [{}], {}", in(reg) to, in(xmm_reg) run, options(nostack, preserves_flags))
         }
+    }
+}
+
+impl<T: Copy, D: Register<T>, const PAST_CACHES: bool> LinesOfCells<T, D> for SliceItems<'_, T, D, PAST_CACHES> {
+    /// Each column of the block has to be a line of the output. It has four runs, by the `requires` of this method.
+    #[inline(always)]
+    fn may_stream_lines(&self, block: Block) -> bool {
+        let first = self.first.wrapping_add(block.to).addr();
+        let distance = block.height.wrapping_mul(size_of::<T>()) * usize::from(block.cols > 1);
+        4 * size_of::<D::Half>() == LINE && (first | distance) % LINE == 0
     }
 }
 

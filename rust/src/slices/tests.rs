@@ -15,7 +15,7 @@ use std::vec::Vec;
 #[cfg(not(feature = "checked"))]
 use super::holders::Bytes;
 #[cfg(not(feature = "checked"))]
-use super::holders::{Items, PastCaches, Vector};
+use super::holders::{Items, Vector};
 use super::holders::{SliceItems, SliceSource};
 use crate::kernels::bytes::plan_in_bytes;
 use crate::kernels::choice::Limits;
@@ -415,8 +415,10 @@ pub(super) fn put_past_caches<const N: usize, D: Register<Bytes<N>>>(
     source: &[[u8; N]],
     block: Block,
 ) {
-    let cells = PastCaches(SliceItems::new(cells).in_bytes().in_registers::<D>());
-    { cells }.put_block(&SliceSource::new(source).in_bytes(), block);
+    let cells = SliceItems::new(cells).in_bytes().in_registers::<D>();
+    cells
+        .past_caches()
+        .put_block(&SliceSource::new(source).in_bytes(), block);
 }
 
 /// A block of this many rows is stored past the caches only if each of its columns is a line of the output. If it has one column,
@@ -431,9 +433,9 @@ fn blocks_of_lines() {
             for cols in [1, 2, line] {
                 let block = block([line, cols], [0, line], [to, height]);
                 let is_line = to % line == 0 && (cols == 1 || height % line == 0);
-                let cells = PastCaches(SliceItems::new(&mut list.0).in_registers::<D>());
+                let cells = SliceItems::new(&mut list.0).in_registers::<D>().past_caches();
                 assert_eq!(cells.may_stream_lines(block), is_line, "{cols} {to} {height}");
-                assert!(!PastCaches(SliceItems::new(&mut list.0)).may_stream_lines(block));
+                assert!(!SliceItems::new(&mut list.0).past_caches().may_stream_lines(block));
             }
         }
     }
@@ -646,7 +648,7 @@ mod refused {
         let mut list = Aligned([0; 24]);
         for len in 16..=20 {
             let list = SliceItems::new(&mut list.0[..len]).in_bytes();
-            let mut places = PastCaches(list.in_registers::<Pair<Items<4>>>());
+            let mut places = list.in_registers::<Pair<Items<4>>>().past_caches();
             let run = Loads::<Bytes<4>, Pair<Items<4>>>::load(&places, 0);
             for place in 0..=20 {
                 let is_wrong = place + 4 > len || place % 4 != 0;
@@ -662,7 +664,11 @@ mod refused {
     fn items_past_the_caches() {
         let mut list = Aligned([[7_u32; 8]; 600]);
         for place in 0..6 {
-            let put = || PastCaches(SliceItems::new(&mut list.0[..5])).put(place, [1, 2, 3, 4, 5, 6, 7, 8]);
+            let put = || {
+                SliceItems::new(&mut list.0[..5])
+                    .past_caches()
+                    .put(place, [1, 2, 3, 4, 5, 6, 7, 8])
+            };
             assert_eq!(panics(put), place == 5, "{place}");
         }
         assert_eq!(list.0[..5], [[1, 2, 3, 4, 5, 6, 7, 8]; 5]);

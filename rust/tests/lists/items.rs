@@ -219,18 +219,14 @@ fn items_without_bytes() {
     reverse_slice_index_bits(&mut [(); 1 << 40]);
     reverse_slice_index_bits(&mut [(); 1 << 63]);
     reverse_slice_row_index_bits(&mut [(); 3 << 40], 3);
-    transpose(&[(); 1 << 40], &mut [(); 1 << 40], 1 << 15, 1 << 25);
+    let (input, mut output) = ([(); 1 << 40], [(); 1 << 40]);
+    transpose(&input, &mut output, 1 << 15, 1 << 25);
     transpose(&[(); 1 << 63], &mut [(); 1 << 63], 1 << 63, 1);
     assert!(panics(|| reverse_slice_index_bits(&mut [(); 3 << 40])));
     assert!(panics(|| reverse_slice_index_bits(&mut [(); usize::MAX])));
     assert!(panics(|| reverse_slice_row_index_bits(&mut [(); 5 << 40], 3)));
-    assert!(panics(|| transpose(
-        &[(); 1 << 40],
-        &mut [(); 1 << 40],
-        1 << 20,
-        1 << 21
-    )));
-    assert!(panics(|| transpose(&[(); 1 << 40], &mut [(); 1], 1 << 20, 1 << 20)));
+    assert!(panics(|| transpose(&input, &mut output, 1 << 20, 1 << 21)));
+    assert!(panics(|| transpose(&input, &mut [(); 1], 1 << 20, 1 << 20)));
 }
 
 #[test]

@@ -292,29 +292,16 @@ fn a_warning_where_parts_are_thrown_away() {
 #[test]
 fn panics_of_the_calls() {
     use p3_util_proved as call;
-    let pairs: &[[fn(); 2]] = &[
-        [
-            || call::reverse_slice_index_bits(&mut [0u8; 6]),
-            || _ = reversal(&mut [0u8; 6], 2),
-        ],
-        [
-            || call::reverse_slice_index_bits(&mut [(); 6]),
-            || _ = reversal(&mut [(); 6], 2),
-        ],
-        [
-            || reverse_slice_row_index_bits(&mut [0u8; 6], 1),
-            || _ = row_reversal(&mut [0u8; 6], 1, 2),
-        ],
-        [
-            || reverse_slice_row_index_bits(&mut [0u8; 6], 0),
-            || _ = row_reversal(&mut [0u8; 6], 0, 2),
-        ],
-        [
-            || reverse_slice_row_index_bits(&mut [0u8; 9], 3),
-            || _ = row_reversal(&mut [0u8; 9], 3, 2),
-        ],
-    ];
-    for calls in pairs {
+    macro_rules! pairs {
+        ($($whole:expr, $in_parts:expr;)*) => { [$([(|| $whole) as fn(), || _ = $in_parts]),*] };
+    }
+    for calls in pairs! {
+        call::reverse_slice_index_bits(&mut [0u8; 6]), reversal(&mut [0u8; 6], 2);
+        call::reverse_slice_index_bits(&mut [(); 6]), reversal(&mut [(); 6], 2);
+        reverse_slice_row_index_bits(&mut [0u8; 6], 1), row_reversal(&mut [0u8; 6], 1, 2);
+        reverse_slice_row_index_bits(&mut [0u8; 6], 0), row_reversal(&mut [0u8; 6], 0, 2);
+        reverse_slice_row_index_bits(&mut [0u8; 9], 3), row_reversal(&mut [0u8; 9], 3, 2);
+    } {
         let [panic, in_parts] = calls.map(|call| refusal(call).unwrap());
         assert_eq!(panic.text, in_parts.text);
         assert_eq!([panic.file, in_parts.file], [file!(); 2]);

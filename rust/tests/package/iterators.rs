@@ -276,9 +276,9 @@ fn zips_drop_what_they_do_not_return() {
         let [of_first, of_second, of_error] = [0; 3].map(AtomicUsize::new);
         let counts = || [&of_first, &of_second, &of_error].map(|drops| drops.load(Relaxed));
         let (left, right) = (Owner::list(first, &of_first), Owner::list(second, &of_second));
-        match zip_eq(left, right, Owner::new(0, &of_error)) {
+        match zip_eq(left, right, Owner::new(7, &of_error)) {
             Ok(_pairs) => assert_eq!((first, counts()), (second, [0, 0, 1])),
-            Err(_error) => assert_eq!(counts(), [first, second, 0]),
+            Err(error) => assert_eq!((error.number, counts()), (7, [first, second, 0])),
         }
         assert_eq!(counts(), [first, second, 1]);
     }

@@ -3,16 +3,6 @@
 use p3_util_proved::pretty_name;
 
 #[test]
-fn zips_of_equal_lengths() {
-    use p3_util_proved::zip_eq::zip_eq;
-
-    let pairs = zip_eq([1, 2], ["a", "b"], "lengths").unwrap();
-    assert_eq!(pairs.len(), 2);
-    assert!(pairs.eq([(1, "a"), (2, "b")]));
-    assert_eq!(zip_eq([1, 2], [1, 2, 3], "lengths").err(), Some("lengths"));
-}
-
-#[test]
 fn short_names() {
     use std::cell::RefCell;
     use std::collections::HashMap;

@@ -169,17 +169,8 @@ fn matrices_of_all_lengths() {
             check_lengths([input, output], shape);
         }
     }
-    for lengths in [
-        [29, 30],
-        [30, 29],
-        [29, 29],
-        [31, 30],
-        [30, 31],
-        [31, 31],
-        [0, 30],
-        [30, 0],
-        [5000, 5001],
-    ] {
+    let near = (29..=31).flat_map(|input| (29..=31).map(move |output| [input, output]));
+    for lengths in near.chain([[0, 30], [30, 0], [5000, 5001]]) {
         check_lengths(lengths, (5, 6));
         check_lengths(lengths, (50, 100));
     }

@@ -67,7 +67,7 @@ fn short_lengths() {
         }
     }
     macro_rules! have_indices {
-        ($($len:literal)*) => { $(assert!(indices_arr::<$len>().into_iter().eq(0..$len), "{}", $len);)* };
+        ($($len:literal)*) => { $(assert!(indices_arr::<$len>().into_iter().eq(0..$len));)* };
     }
     have_indices!(0 1 2 3 4 5 6 7 8 9);
 }

@@ -5,31 +5,23 @@ use std::fmt::Debug;
 use crate::answer::{Answer, Compared, Side};
 use crate::choices::Choices;
 
-/// A call on two integers, of which it may use one. Its result is a text.
-type Call = fn(u64, u64) -> String;
+/// A call on two integers of 64 bits, of which it may use one. Its result is a text.
+type Call = fn(usize, usize) -> String;
 
 macro_rules! calls_of {
     ($library:ident) => {
         [
-            ("log2_ceil_usize", |x, _| text($library::log2_ceil_usize(x as usize))),
-            ("log2_ceil_u64", |x, _| text($library::log2_ceil_u64(x))),
-            ("log2_floor_usize", |x, _| text($library::log2_floor_usize(x as usize))),
-            ("log2_strict_usize", |x, _| {
-                text($library::log2_strict_usize(x as usize))
-            }),
-            ("log3_strict_usize", |x, _| {
-                text($library::log3_strict_usize(x as usize))
-            }),
-            ("checked_pow2", |x, _| text($library::checked_pow2(x as usize))),
+            ("log2_ceil_usize", |x, _| text($library::log2_ceil_usize(x))),
+            ("log2_ceil_u64", |x, _| text($library::log2_ceil_u64(x as u64))),
+            ("log2_floor_usize", |x, _| text($library::log2_floor_usize(x))),
+            ("log2_strict_usize", |x, _| text($library::log2_strict_usize(x))),
+            ("log3_strict_usize", |x, _| text($library::log3_strict_usize(x))),
+            ("checked_pow2", |x, _| text($library::checked_pow2(x))),
             ("checked_log_size_sum", |x, y| {
-                text($library::checked_log_size_sum(x as usize, y as usize))
+                text($library::checked_log_size_sum(x, y))
             }),
-            ("reverse_bits", |x, y| {
-                text($library::reverse_bits(x as usize, y as usize))
-            }),
-            ("reverse_bits_len", |x, y| {
-                text($library::reverse_bits_len(x as usize, y as usize))
-            }),
+            ("reverse_bits", |x, y| text($library::reverse_bits(x, y))),
+            ("reverse_bits_len", |x, y| text($library::reverse_bits_len(x, y))),
             ("indices_arr", |_, _| {
                 text(($library::indices_arr::<0>(), $library::indices_arr::<9>()))
             }),
@@ -67,12 +59,12 @@ pub fn word(choices: &mut Choices) -> Compared {
 }
 
 /// A small number, a power of two or of three, one next to such a power, or any number.
-fn number(choices: &mut Choices) -> u64 {
+fn number(choices: &mut Choices) -> usize {
     let power = match choices.below(4) {
-        0 => return choices.below(200) as u64,
+        0 => return choices.below(200),
         1 => 1 << choices.below(64),
-        2 => 3_u64.pow(choices.below(41) as u32),
-        _ => return choices.up_to(usize::MAX) as u64,
+        2 => 3_usize.pow(choices.below(41) as u32),
+        _ => return choices.up_to(usize::MAX),
     };
     match choices.below(4) {
         0 | 1 => power,
