@@ -300,11 +300,7 @@ impl<T: Copy, D: Register<T>, const PAST_CACHES: bool> Blocked for SliceItems<'_
 impl<T: Copy, D: Register<T>, const PAST_CACHES: bool> RunsOfCells<T, D> for SliceItems<'_, T, D, PAST_CACHES> {}
 
 impl<T: Copy, D: Register<T>, const PAST_CACHES: bool> SquaresOfCells<T, D> for SliceItems<'_, T, D, PAST_CACHES> {
-    const SQUARE: usize = if D::SIDE > 1 {
-        <SliceItems<T, D> as Output>::SIDE
-    } else {
-        1
-    };
+    const SQUARE: usize = <SliceItems<T, D> as Output>::SIDE;
 
     /// Prefetches the next cache line of each column of a square of 4 by 4. The processor makes its stores in order, so a store
     /// that waits for its cache line delays all stores after it. The places may be outside. No reference is made to them.
