@@ -4,7 +4,7 @@
 //! It is proved that a kernel whose own precondition holds meets the preconditions of the steps of every holder. So
 //! `holders.rs` and its folder, which have all the unsafe code, check no index. With the feature `checked`, the holders of
 //! `checked.rs` are used instead, which check each one. Proved code chooses how a matrix is put, in `kernels/calls.rs`.
-//! `by_size.rs` has an instance of the kernels for each usual size of an item. With `checked` and on 32 bits, `by_type.rs` is
+//! `instances.rs` has an instance of the kernels for each usual size of an item. With `checked` and on 32 bits, `by_type.rs` is
 //! used instead, which has none.
 //!
 //! On a system of 32 bits, `narrow.rs` has the holders: those of the kernels, which check each index too.
@@ -18,10 +18,6 @@ use holders::{SliceItems, SliceSource, WholeList};
 #[cfg_attr(all(feature = "checked", target_pointer_width = "64"), path = "slices/checked.rs")]
 #[cfg_attr(not(feature = "checked"), allow(unsafe_code))]
 mod holders;
-#[cfg_attr(
-    all(not(feature = "checked"), target_pointer_width = "64"),
-    path = "slices/by_size.rs"
-)]
 #[cfg_attr(any(feature = "checked", target_pointer_width = "32"), path = "slices/by_type.rs")]
 mod instances;
 #[cfg(target_pointer_width = "64")]

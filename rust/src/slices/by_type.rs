@@ -1,7 +1,6 @@
 //! Kernels for each type of item, and none for each size: with the feature `checked` and on systems of 32 bits. Only `slices.rs`
 //! uses this file.
 
-use crate::kernels::calls;
 pub(super) use crate::kernels::calls::transpose_whole;
 use crate::kernels::kernel::{Tiled, reverse_short};
 use crate::width::Index;
@@ -17,20 +16,18 @@ pub(super) fn reverse(items: impl Tiled) {
 /// Reverses the order of rows by index bits.
 #[inline(never)]
 pub(super) fn reverse_rows(items: impl Tiled, row_width: Index) {
-    let _ = calls::reverse_rows(items, row_width);
+    let _ = crate::kernels::calls::reverse_rows(items, row_width);
 }
 
 #[cfg(target_pointer_width = "64")]
 mod in_parts {
     use crate::kernels::bytes::Instances;
-    use crate::kernels::part;
     pub(in crate::slices) use crate::kernels::part::transpose_part;
     use crate::kernels::parts::{Part, ReversalPlan};
-    use crate::slices::holders::SliceItems;
 
     /// Makes the exchanges of a part, whose places are the items.
-    pub(in crate::slices) fn reverse_part<F>(items: SliceItems<F>, _: usize, part: Part<ReversalPlan>) {
-        let _ = part::reverse_part(items, part);
+    pub(in crate::slices) fn reverse_part(items: impl super::Tiled, _: usize, part: Part<ReversalPlan>) {
+        let _ = crate::kernels::part::reverse_part(items, part);
     }
 
     /// No size.
