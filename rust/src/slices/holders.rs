@@ -358,11 +358,13 @@ impl<T, E, D: Register<T>, const PAST_CACHES: bool> Runs<T, D> for SliceItems<'_
     #[cfg(all(target_arch = "x86_64", target_feature = "sse2", not(ordinary_stores)))]
     #[inline(always)]
     fn stream(&mut self, place: usize, run: D::Half) {
+        if const { !PAST_CACHES || size_of::<D::Half>() != 16 } {
+            return Runs::<T, D>::store(self, place, run);
+        }
         let to = self.first.wrapping_add(place);
-        debug_assert!(place <= self.len && D::SIDE <= self.len - place);
-        debug_assert!(size_of::<D::Half>() == 16 && to.addr() % 16 == 0);
-        // SAFETY: a run is a register here. A holder with `PAST_CACHES` `may_stream` it, by the `requires` of `Runs::stream`: the
-        // methods `may_stream_lines` and `put` test its address.
+        debug_assert!(place <= self.len && D::SIDE <= self.len - place && to.addr() % 16 == 0);
+        // SAFETY: a run is a register here. The holder `may_stream` it, by the `requires` of `Runs::stream`: the methods
+        // `may_stream_lines` and `put` test its address.
         unsafe {
             let run: Vector = core::mem::transmute_copy(&run);
             core::arch::asm!("movntdq [{}], {}", in(reg) to, in(xmm_reg) run, options(nostack, preserves_flags))
