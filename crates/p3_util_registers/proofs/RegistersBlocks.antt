@@ -74,11 +74,11 @@ module _ (block : Block) (input_len len : ℕ) (fits : BlockFits block input_len
   }
 
 -- all columns are put
-pub IsBlockPut-whole : {A : Type 0} (block : Block) (input old new : List A) → ColumnsPut 0 block.cols block input old new → IsBlockPut (block.rows * block.cols) block input old new
-IsBlockPut-whole block input old new all = record {
+pub IsBlockPut-whole : {A : Type 0} (block : Block) (end : ℕ) (input old new : List A) → block.cols ≡ end → ColumnsPut 0 end block input old new → IsBlockPut (block.rows * block.cols) block input old new
+IsBlockPut-whole block end input old new is all = record {
   same_length = all.same_length;
-  places = λ r c hr h. all.places r c hr (omega arith) (lt_of_mul-lt-mul_left block.rows (let column : block.rows * c < block.rows * block.cols = omega (arith, h) in column));
-  others = λ p out. all.others p (λ r c hr h k. out r c hr (in_block block.rows block.cols r c hr k));
+  places = λ r c hr h. all.places r c hr (omega arith) (rw (← is) (lt_of_mul-lt-mul_left block.rows (let column : block.rows * c < block.rows * block.cols = omega (arith, h) in column)));
+  others = λ p out. all.others p (λ r c hr h k. out r c hr (in_block block.rows block.cols r c hr (omega (arith, k, is))));
 }
 
 -- a run that is within a row of the block is within the source

@@ -1,5 +1,5 @@
 -- Squares that are transposed in registers.
-use Rattle.std.proofs.Common.{◌≡◌, ◌≢◌, ℕ, ◌+◌, ◌-◌, ◌*◌, ◌/◌, ◌%◌, ◌<◌, ◌≤◌, ◌⊎◌, List, ◌++◌, length, slice_get, slice_index, inl, inr, refl, sym, ◌∙◌, arith}
+use Rattle.std.proofs.Common.{◌≡◌, ℕ, ◌+◌, ◌-◌, ◌*◌, ◌/◌, ◌%◌, ◌<◌, ◌≤◌, ◌⊎◌, List, ◌++◌, length, slice_get, slice_index, inl, inr, refl, sym, ◌∙◌, arith}
 use Rattle.std.proofs.lemmas.Bool.{cases_eq, cases_lt}
 use Rattle.p3_util_kernels.specs.Stages.{item_at}
 use Rattle.p3_util_kernels.proofs.PlacesLemmas.ListParts.{slice_get-append_left, slice_get-append_right}
@@ -9,13 +9,14 @@ use Rattle.p3_util_registers.specs.Registers.{AreInterleaved, AreColumns, AreLoa
 abbrev pub AreInOrder : ℕ → List ℕ → List ℕ → Type 0
 AreInOrder side places from = (s r : ℕ) → r < side → side * s + r < 8 → slice_index from (8 / side * r + s) ≡ slice_index places (side * s + r)
 
-two : {A : Type 0} (places from : List ℕ) (list : List A) (a : List (List A)) → AreInOrder 2 places from → AreLoaded 2 from list a → AreColumns 2 places list a
+-- as many stages as a side has binary digits make columns of rows
+pub two : {A : Type 0} (places from : List ℕ) (list : List A) (a : List (List A)) → AreInOrder 2 places from → AreLoaded 2 from list a → AreColumns 2 places list a
 two places from list a order one c r hc hr =
     let row : c / 2 + 4 * r ≡ 4 * r + c / 2 = omega arith in
     let of : 2 * (c / 2) + r ≡ c - c % 2 + r = omega arith in
     rw (row, rw of at (order (c / 2) r hr (omega arith))) at (one (c / 2) (c % 2) r (omega arith) (omega arith) hr)
 
-four : {A : Type 0} (places from : List ℕ) (list : List A) (a b : List (List A)) → AreInOrder 4 places from → AreLoaded 4 from list a → IsNextStage 4 a b → AreColumns 4 places list b
+pub four : {A : Type 0} (places from : List ℕ) (list : List A) (a b : List (List A)) → AreInOrder 4 places from → AreLoaded 4 from list a → IsNextStage 4 a b → AreColumns 4 places list b
 four places from list a b order one next c r hc hr =
     let i : 2 * (c / 4) + c / 2 % 2 ≡ c / 2 = omega arith in
     let t : 2 * (2 * (c % 2) + r / 2) + r % 2 ≡ 4 * (c % 2) + r = omega arith in
@@ -26,7 +27,7 @@ four places from list a b order one next c r hc hr =
     rw (i, t) at (next (c / 4) (c / 2 % 2) (2 * (c % 2) + r / 2) (r % 2) (omega arith) (omega arith) (omega arith) (omega arith))
     ∙ rw (u, j, k, rw of at (order (c / 4) r hr (omega arith))) at (one (c / 4 + 2 * (r % 2)) (2 * (c / 2 % 2) + c % 2) (r / 2) (omega arith) (omega arith) (omega arith))
 
-eight : {A : Type 0} (places from : List ℕ) (list : List A) (a b d : List (List A)) → AreInOrder 8 places from → AreLoaded 8 from list a → IsNextStage 8 a b
+pub eight : {A : Type 0} (places from : List ℕ) (list : List A) (a b d : List (List A)) → AreInOrder 8 places from → AreLoaded 8 from list a → IsNextStage 8 a b
     → IsNextStage 8 b d → AreColumns 8 places list d
 eight places from list a b d order one mid last c r hc hr =
     let i : 2 * (c / 4) + c / 2 % 2 ≡ c / 2 = omega arith in
@@ -41,47 +42,21 @@ eight places from list a b d order one mid last c r hc hr =
     ∙ rw (j, u) at (mid (r % 2) (c / 4) (4 * (c / 2 % 2) + 2 * (c % 2) + r / 4) (r / 2 % 2) (omega arith) (omega arith) (omega arith) (omega arith))
     ∙ rw (k, l, m, rw of at (order (c / 8) r hr (omega arith))) at (one (r % 2 + 2 * (r / 2 % 2)) (4 * (c / 4) + 2 * (c / 2 % 2) + c % 2) (r / 4) (omega arith) (omega arith) (omega arith))
 
--- as many stages as a side has binary digits make columns of rows
-pub AreColumns-two : {A : Type 0} (side : ℕ) (places from : List ℕ) (list : List A) (a : List (List A)) → side ≡ 2 → AreInOrder side places from
-    → AreLoaded side from list a → AreColumns side places list a
-AreColumns-two side places from list a is order one = rw is (two places from list a (rw is at order) (rw is at one))
-
-pub AreColumns-four : {A : Type 0} (side : ℕ) (places from : List ℕ) (list : List A) (a b : List (List A)) → side ≡ 4 → AreInOrder side places from
-    → AreLoaded side from list a → IsNextStage side a b → AreColumns side places list b
-AreColumns-four side places from list a b is order one next = rw is (four places from list a b (rw is at order) (rw is at one) (rw is at next))
-
-pub AreColumns-eight : {A : Type 0} (side : ℕ) (places from : List ℕ) (list : List A) (a b d : List (List A)) → IsSide side → side ≢ 2 → side ≢ 4 → AreInOrder side places from
-    → AreLoaded side from list a → IsNextStage side a b → IsNextStage side b d → AreColumns side places list d
-AreColumns-eight side places from list a b d (inl is) not_two _ order one next last = absurd (not_two is)
-AreColumns-eight side places from list a b d (inr (inl is)) _ not_four order one next last = absurd (not_four is)
-AreColumns-eight side places from list a b d (inr (inr is)) _ _ order one next last = rw is (eight places from list a b d (rw is at order) (rw is at one) (rw is at next) (rw is at last))
-
 -- each place is one of those
 pub AreReached-in_order : (side : ℕ) (may : ℕ → Type 0) (places from : List ℕ) → IsSide side → AreInOrder side places from → AreReached 8 places may → AreReached 8 from may
 AreReached-in_order side may places from (inl is) order inside j h =
     let of : 4 * (j / 4) + j % 4 ≡ j = omega arith in
-    let at : slice_index from j ≡ slice_index places (2 * (j % 4) + j / 4) = rw of at (rw is at order (j % 4) (j / 4) (omega arith) (omega arith)) in
-    rw at (inside (2 * (j % 4) + j / 4) (omega arith))
+    rw (rw of at (rw is at order (j % 4) (j / 4) (omega arith) (omega arith))) (inside _ (omega arith))
 AreReached-in_order side may places from (inr (inl is)) order inside j h =
     let of : 2 * (j / 2) + j % 2 ≡ j = omega arith in
-    let at : slice_index from j ≡ slice_index places (4 * (j % 2) + j / 2) = rw of at (rw is at order (j % 2) (j / 2) (omega arith) (omega arith)) in
-    rw at (inside (4 * (j % 2) + j / 2) (omega arith))
+    rw (rw of at (rw is at order (j % 2) (j / 2) (omega arith) (omega arith))) (inside _ (omega arith))
 AreReached-in_order side may places from (inr (inr is)) order inside j h =
     let of : 1 * j + 0 ≡ j = omega arith in
-    let at : slice_index from j ≡ slice_index places (8 * 0 + j) = rw of at (rw is at order 0 j h (omega arith)) in
-    rw at (inside (8 * 0 + j) (omega arith))
-
-pub fewer : (n : ℕ) → (n ≡ 4) ⊎ (n ≡ 8) → n ≢ 8 → n ≡ 4
-fewer n (inl is) other = is
-fewer n (inr is) other = absurd (other is)
+    rw (rw of at (rw is at order 0 j h (omega arith))) (inside _ (omega arith))
 
 -- nothing is stored yet
 pub AreStored-none : {A : Type 0} (side : ℕ) (to : List ℕ) (regs : List (List A)) (old : List A) → AreStored 0 side to regs old old
-AreStored-none side to regs old = record {
-  same_length = refl;
-  rows = λ c t hc ht. absurd (omega arith);
-  others = λ p out. refl;
-}
+AreStored-none side to regs old = record { same_length = refl; rows = λ c t hc ht. absurd (omega arith); others = λ p out. refl }
 
 -- one more register is stored
 pub AreStored-more : {A : Type 0} (k side : ℕ) (to : List ℕ) (regs : List (List A)) (items old now next : List A)

@@ -1,12 +1,12 @@
 -- Blocks whose columns are put one after another.
-use Rattle.std.proofs.Common.{◌≡◌, ◌≢◌, ℕ, ◌+◌, ◌-◌, ◌*◌, ◌/◌, ◌%◌, ◌<◌, ◌≤◌, ◌⊎◌, List, ◌++◌, length, slice_get, slice_index, inl, inr, refl, sym, ◌∙◌, arith}
+use Rattle.std.proofs.Common.{◌≡◌, ℕ, ◌+◌, ◌-◌, ◌*◌, ◌/◌, ◌%◌, ◌<◌, ◌⊎◌, List, ◌++◌, length, slice_get, slice_index, inl, inr, refl, sym, ◌∙◌, arith}
 use Rattle.std.proofs.lemmas.Bool.{cases_lt}
 use Rattle.p3_util_kernels.specs.Stages.{item_at}
 use Rattle.p3_util_kernels.specs.declared.places.bulk.Block.{Block}
 use Rattle.p3_util_registers.specs.RegisterLines.{AreLines}
 use Rattle.p3_util_registers.specs.Registers.{AreInterleaved, AreLoaded, ColumnsPut, IsNextStage, IsRunStored, IsStored}
 use Rattle.p3_util_kernels.proofs.PlacesLemmas.ListParts.{slice_get-append_left, slice_get-append_right}
-use Rattle.p3_util_registers.proofs.RegistersTiles.{outside}
+use Rattle.p3_util_kernels.proofs.ReverseLemmas.Crossing.{outside}
 
 module _ {A : Type 0} (from width : ℕ) (rows : List ℕ) (list : List A) (a b d : List (List A)) (at : (r : ℕ) → r < 8 → slice_index rows r ≡ from + r * width) where
   two : AreLoaded 2 rows list a → IsNextStage 2 a b → IsNextStage 2 b d → AreLines 2 from width list d
@@ -14,7 +14,6 @@ module _ {A : Type 0} (from width : ℕ) (rows : List ℕ) (list : List A) (a b 
       let x : (8 * c + r) / (2 * 2) ≡ 2 * c + r / 4 = omega arith in
       let y : (8 * c + r) % (2 * 2) ≡ 2 * (r / 2 % 2) + r % 2 = omega arith in
       let i : 2 * (r % 2) + c ≡ c + 2 * (r % 2) = omega arith in
-      let t : 2 * (r / 4) + r / 2 % 2 ≡ 2 * (r / 4) + r / 2 % 2 = omega arith in
       let row : r % 2 + 2 * (r / 2 % 2) + 4 * (r / 4) ≡ r = omega arith in
       rw (x, y)
       (last c (r / 4) (r / 2 % 2) (r % 2) (omega arith) (omega arith) (omega arith) (omega arith)
@@ -96,7 +95,7 @@ ColumnsPut-line block n to base col input items old new whole there here stored 
       let cell : to + r ≡ block.to + c * block.height + r = omega (arith, there, rw column at there) in
       let index : base + r * block.width ≡ block.from + r * block.width + c = omega arith in
       rw cell at (stored.run r (omega arith)) ∙ rw index at (of r (omega arith));
-  others = λ p out. stored.others p (outside p to n (λ from within. out (p - to) col (omega arith) (omega arith) (omega arith) (omega arith)));
+  others = λ p out. stored.others p (outside p to n (λ t within e. out t col (omega arith) (omega arith) (omega arith) (omega arith)));
 }
 
 -- where the registers of 8 rows have a column
@@ -142,15 +141,6 @@ module _ {A : Type 0} (side col this next : ℕ) (block : Block) (input a b old 
       let at : base + (4 * 1 + r) * block.width + c ≡ base + c + (4 + r) * block.width = omega arith in
       sym (of_b r) ∙ rw at at (at_two side _ _ _ _ of is c 1 r hc (omega arith) h))
       r (omega (arith, whole, is))))
-
--- a register has half of 2 or of 4 items
-pub some : {n : ℕ} → (n ≡ 2) ⊎ (n ≡ 4) → 2 ≤ n
-some (inl is) = omega (arith, is)
-some (inr is) = omega (arith, is)
-
-pub other : {n m : ℕ} → (n ≡ 2) ⊎ (n ≡ 4) → m ≡ n → m ≢ 2 → n ≡ 4
-other (inl is) same not = absurd (not (same ∙ is))
-other (inr is) same not = is
 
 -- a register of two items of a column
 pub of_pair : {A : Type 0} (base second width : ℕ) (list a : List A) → second ≡ base + width → AreInterleaved 1 base second list list a

@@ -13,11 +13,7 @@ pub record AreRunsStored {A : Type 0} (n side : ℕ) (run : ℕ → ℕ) (to : L
 
 -- no run is stored yet
 pub AreRunsStored-none : {A : Type 0} (side : ℕ) (run : ℕ → ℕ) (to : List ℕ) (regs : List (List A)) (old : List A) → AreRunsStored 0 side run to regs old old
-AreRunsStored-none side run to regs old = record {
-  same_length = refl;
-  runs = λ i t hi ht. absurd (omega arith);
-  others = λ p out. refl;
-}
+AreRunsStored-none side run to regs old = record { same_length = refl; runs = λ i t hi ht. absurd (omega arith); others = λ p out. refl }
 
 -- where an item of a half is in its register
 pub first_half : {A : Type 0} (side : ℕ) (half items : List A) → ((t : ℕ) → t < side → slice_get half t ≡ slice_get items t)

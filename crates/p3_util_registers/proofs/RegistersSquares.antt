@@ -14,7 +14,7 @@ IsItem row col r c = (r ≡ row) × (c ≡ col)
 
 module _ (x y : List ℕ) (len : ℕ) (tiles : AreTiles x y len) where
   -- the places of other items, and of their mirror images, are other places
-  other_places : (r c v w : ℕ) → r < 8 → c < 8 → v < 8 → w < 8 → (r ≢ v) ⊎ (c ≢ w)
+  pub other_places : (r c v w : ℕ) → r < 8 → c < 8 → v < 8 → w < 8 → (r ≢ v) ⊎ (c ≢ w)
       → ((slice_index x r + c ≢ slice_index x v + w) × (slice_index x r + c ≢ slice_index y w + v)) × ((slice_index y c + r ≢ slice_index x v + w) × (slice_index y c + r ≢ slice_index y w + v))
   other_places r c v w hr hc hv hw other = (
     (λ e. let at = one_row x r c v w tiles.first_apart hr hc hv hw e in elim other [ inl row ↦ row at.0 | inr col ↦ col at.1 ], λ e. places-apart x y len tiles r c w v hr hc hw hv e),

@@ -4,10 +4,8 @@ use Rattle.std.proofs.lemmas.Bool.{cases_eq, cases_lt}
 use Rattle.p3_util_kernels.specs.Exchanged.{AreTiles, IsTile, TileTurned, TilesExchanged}
 use Rattle.p3_util_registers.specs.Registers.{AreDisjoint, AreColumns, AreReached, AreStored, IsSide, RowsExchanged, RowsReached, SquaresTurned, sum_of}
 use Rattle.p3_util_kernels.proofs.PlacesLemmas.Tiles.{one_row, places-apart}
-
--- a place is outside a run if it is not in it
-pub outside : (p start count : ℕ) → (start ≤ p → p < start + count → ⊥) → (p < start) ⊎ (start + count ≤ p)
-outside p start count not_in = elim (cases_lt p start) [ inl before ↦ inl before | inr from ↦ elim (cases_lt p (start + count)) [ inl within ↦ absurd (not_in (omega arith) within) | inr past ↦ inr (omega arith) ] ]
+use Rattle.p3_util_kernels.proofs.ReverseLemmas.Crossing.{outside}
+use Rattle.p3_util_registers.proofs.RegistersSquares.{other_places}
 
 -- what holds for each side holds for any
 pub side_cases : (P : ℕ → Type 0) → P 2 → P 4 → P 8 → (side : ℕ) → IsSide side → P side
@@ -114,8 +112,7 @@ module _ (n side : ℕ) (known : (n ≡ 4) ⊎ (n ≡ 8)) (is : IsSide side) (sm
         let on = at j m in
         let up = square_up side is n j known small m in
         let most = row_most side is j in
-        outside p (slice_index to j) side (λ from within.
-        let t = p - slice_index to j in
+        outside p (slice_index to j) side (λ t within e.
         let row = row_in_square side is j t (omega arith) in
         let start : j - j % side + t - (j - j % side + t) % side ≡ j - j % side = omega (arith, row) in
         let below = row_below side is j in
@@ -147,22 +144,14 @@ module _ (x y : List ℕ) (len : ℕ) (tiles : AreTiles x y len) where
             ∙ one.others p (λ j m.
             let on = at_y j m in
             let top = is_top j m in
-            outside p (slice_index in_y j) side (λ from within. (out (p - slice_index y j) j (omega arith) (omega arith) m).1 (omega arith)));
+            outside p (slice_index in_y j) side (λ t within e. (out (row + t) j (omega arith) (omega arith) m).1 (omega arith)));
       }
-
-  -- an item is in only one row of a tile, and in only one column
-  other_row : (r c v w : ℕ) → r ≢ v → r < 8 → c < 8 → v < 8 → w < 8
-      → ((slice_index x r + c ≢ slice_index x v + w) × (slice_index x r + c ≢ slice_index y w + v)) × ((slice_index y c + r ≢ slice_index x v + w) × (slice_index y c + r ≢ slice_index y w + v))
-  other_row r c v w differ hr hc hv hw = (
-    (λ e. differ (one_row x r c v w tiles.first_apart hr hc hv hw e).0, λ e. places-apart x y len tiles r c w v hr hc hw hv e),
-    (λ e. places-apart x y len tiles v w c r hv hw hc hr (sym e), λ e. differ (one_row y c r w v tiles.second_apart hc hr hw hv e).1),
-  )
 
   -- some rows are exchanged, and then those that follow them
   pub RowsExchanged-joined : {A : Type 0} (a b d : ℕ) (old mid new : List A) → a ≤ b → b ≤ d → d ≤ 8 → RowsExchanged a b x y old mid → RowsExchanged b d x y mid new → RowsExchanged a d x y old new
   RowsExchanged-joined a b d old mid new up more most one two =
-      let after : (r c : ℕ) → r < b → c < 8 → (v w : ℕ) → b ≤ v → v < d → w < 8 → _ = λ r c h k v w i j m. other_row r c v w (λ e. omega arith) (omega arith) k (omega arith) m in
-      let before : (r c : ℕ) → b ≤ r → r < d → c < 8 → (v w : ℕ) → a ≤ v → v < b → w < 8 → _ = λ r c h l k v w i j m. other_row r c v w (λ e. omega arith) (omega arith) k (omega arith) m in
+      let after : (r c : ℕ) → r < b → c < 8 → (v w : ℕ) → b ≤ v → v < d → w < 8 → _ = λ r c h k v w i j m. other_places x y len tiles r c v w (omega arith) k (omega arith) m (inl (λ e. omega arith)) in
+      let before : (r c : ℕ) → b ≤ r → r < d → c < 8 → (v w : ℕ) → a ≤ v → v < b → w < 8 → _ = λ r c h l k v w i j m. other_places x y len tiles r c v w (omega arith) k (omega arith) m (inl (λ e. omega arith)) in
       record {
         same_length = two.same_length ∙ one.same_length;
         first = λ r c h k l.

@@ -1,6 +1,6 @@
 -- Two or four registers are stored, one after the other.
-use Rattle.std.proofs.Common.{◌*◌, refl, arith}
-use Rattle.p3_util_registers.proofs.RegistersLemmas.{AreStored-none, AreStored-more, fewer}
+use Rattle.std.proofs.Common.{◌≡◌, ◌*◌, refl, arith}
+use Rattle.p3_util_registers.proofs.RegistersLemmas.{AreStored-none, AreStored-more}
 use Rattle.p3_util_registers.proofs.RegistersSteps.{four_times}
 use Rattle.p3_util_registers.proofs.registers.store.Goals as goal
 
@@ -16,7 +16,7 @@ returns-then-count-eq8-clause-stored g c =
 
 pub returns-else-count-eq8-clause-stored : goal.returns-else-count-eq8-clause-stored
 returns-else-count-eq8-clause-stored g c =
-    let four = fewer c.args.count c.requires.known c.if-count-eq8.false in
+    let four : c.args.count ≡ 4 = grind (arith, c.requires.known, c.if-count-eq8.false) in
     let apart = rw four at c.requires.apart in
     rw four
     (AreStored-more 1 _ _ _ _ _ _ _ (λ t. refl) apart

@@ -2,7 +2,7 @@
 use Rattle.std.proofs.Common.{◌≡◌, ◌*◌, arith}
 use Rattle.p3_util_registers.specs.Registers.{items_of_four}
 use Rattle.p3_util_registers.proofs.RegistersRuns.{AreRunsStored-more, AreRunsStored-none, AreStored-runs, by_fours, by_twos, by_twos_of_four, first_half, second_half}
-use Rattle.p3_util_registers.proofs.RegistersSteps.{four_times, twice}
+use Rattle.p3_util_registers.proofs.RegistersSteps.{four_times}
 use Rattle.p3_util_registers.proofs.registers.store_columns.Goals as goal
 
 pub returns-then-side-eq4-clause-stored : goal.returns-then-side-eq4-clause-stored
@@ -56,7 +56,7 @@ pub returns-then-side-eq4-clause-holder : goal.returns-then-side-eq4-clause-hold
 returns-then-side-eq4-clause-holder g c =
     let count : c.args.count ≡ 8 = grind (arith, c.requires.known, c.requires.squares, c.if-side-eq4.true) in
     rw count
-    (twice _ g.M.Runs.same_holder g.met.M.Runs.same_holder_trans (4 * g.D.Register.SIDE) _ _ _ _
+    (g.met.M.Runs.same_holder_trans _ _ _ _ _ _
     (four_times _ g.M.Runs.same_holder g.met.M.Runs.same_holder_trans g.D.Register.SIDE (4 * g.D.Register.SIDE) _ _ _ _ _ c.store.ensures.holder c.store-then-side-eq4.ensures.holder c.store-then-side-eq4-2.ensures.holder c.store-then-side-eq4-3.ensures.holder (omega arith))
     (four_times _ g.M.Runs.same_holder g.met.M.Runs.same_holder_trans g.D.Register.SIDE (4 * g.D.Register.SIDE) _ _ _ _ _ c.store-then-side-eq4-4.ensures.holder c.store-then-side-eq4-5.ensures.holder c.store-then-side-eq4-6.ensures.holder c.store-then-side-eq4-7.ensures.holder (omega arith))
     (omega arith))
@@ -69,7 +69,7 @@ pub returns-clause-holder : goal.returns-clause-holder
 returns-clause-holder g c =
     let count : c.args.count ≡ 8 = grind (arith, c.requires.known, c.if-count-eq4.false) in
     rw count
-    (twice _ g.M.Runs.same_holder g.met.M.Runs.same_holder_trans (4 * g.D.Register.SIDE) _ _ _ _
+    (g.met.M.Runs.same_holder_trans _ _ _ _ _ _
     (four_times _ g.M.Runs.same_holder g.met.M.Runs.same_holder_trans g.D.Register.SIDE (4 * g.D.Register.SIDE) _ _ _ _ _ c.store-2.ensures.holder c.store-3.ensures.holder c.store-4.ensures.holder c.store-5.ensures.holder (omega arith))
     (four_times _ g.M.Runs.same_holder g.met.M.Runs.same_holder_trans g.D.Register.SIDE (4 * g.D.Register.SIDE) _ _ _ _ _ c.store-6.ensures.holder c.store-7.ensures.holder c.store-8.ensures.holder c.store-9.ensures.holder (omega arith))
     (omega arith))

@@ -1,33 +1,26 @@
 -- The columns of the block are put from the first to the last.
-use Rattle.std.proofs.Common.{◌≡◌, ℕ, ◌+◌, ◌*◌, List, inl, inr, arith}
-use Rattle.p3_util_kernels.specs.declared.places.bulk.Block.{Block}
-use Rattle.p3_util_registers.specs.Registers.{ColumnsPut}
+use Rattle.std.proofs.Common.{◌≡◌, ◌+◌, ◌*◌, inl, inr, refl, arith}
 use Rattle.p3_util_registers.proofs.RegistersBlocks.{ColumnsPut-joined, IsBlockPut-whole}
 use Rattle.p3_util_registers.proofs.RegistersSteps.{four_times}
 use Rattle.p3_util_registers.proofs.registers.line_blocks.put_by_lines.Goals as goal
-
--- the same columns
-to_end : {A : Type 0} (from to end : ℕ) (block : Block) (input old new : List A) → end ≡ to → ColumnsPut from to block input old new → ColumnsPut from end block input old new
-to_end from to end block input old new is put = rw is put
 
 pub returns-then-block-gt1-clause-put : goal.returns-then-block-gt1-clause-put
 returns-then-block-gt1-clause-put g c =
     let square : c.args.block.cols ≡ 4 = elim c.requires.cols [ inl one ↦ absurd (omega (arith, one)) | inr all ↦ omega (arith, all, c.requires.lines) ] in
     let join = ColumnsPut-joined c.args.block _ _ c.requires.block in
-    IsBlockPut-whole c.args.block _ _ _
-    (to_end 0 4 _ c.args.block _ _ _ square
+    IsBlockPut-whole c.args.block 4 _ _ _ square
     (join 0 3 4 _ _ _ _ (omega arith) (omega arith)
     (join 0 2 3 _ _ _ _ (omega arith) (omega arith)
     (join 0 1 2 _ _ _ _ (omega arith) (omega arith) c.put_four.ensures.put c.put_four-then-block-gt1.ensures.put)
-    c.put_four-then-block-gt1-2.ensures.put) c.put_four-then-block-gt1-3.ensures.put))
+    c.put_four-then-block-gt1-2.ensures.put) c.put_four-then-block-gt1-3.ensures.put)
 
 pub returns-else-block-gt1-clause-put : goal.returns-else-block-gt1-clause-put
 returns-else-block-gt1-clause-put g c =
     let alone : c.args.block.cols ≡ 1 = elim c.requires.cols [ inl one ↦ one | inr all ↦ absurd (omega (arith, all, c.requires.lines)) ] in
-    IsBlockPut-whole c.args.block _ _ _ (to_end 0 1 _ c.args.block _ _ _ alone c.put_four.ensures.put)
+    IsBlockPut-whole c.args.block 1 _ _ _ alone c.put_four.ensures.put
 
 pub returns-then-block-eq1-clause-put : goal.returns-then-block-eq1-clause-put
-returns-then-block-eq1-clause-put g c = IsBlockPut-whole c.args.block _ _ _ c.put_one_line.ensures.put
+returns-then-block-eq1-clause-put g c = IsBlockPut-whole c.args.block _ _ _ _ refl c.put_one_line.ensures.put
 
 pub returns-clause-put : goal.returns-clause-put
 returns-clause-put g c =
@@ -40,7 +33,7 @@ returns-clause-put g c =
     let three : 2 * side + half ≡ 3 * side = omega (arith, is) in
     let four : 3 * side + half ≡ c.args.block.cols = omega (arith, square, is) in
     let join = ColumnsPut-joined c.args.block _ _ c.requires.block in
-    IsBlockPut-whole c.args.block _ _ _
+    IsBlockPut-whole c.args.block _ _ _ _ refl
     (join 0 (3 * side) c.args.block.cols _ _ _ _ (omega arith) (omega (arith, square))
     (join 0 (2 * side) (3 * side) _ _ _ _ (omega arith) (omega arith)
     (join 0 side (2 * side) _ _ _ _ (omega arith) (omega arith) (rw one at c.put_some_lines.ensures.put) (rw two at c.put_some_lines-2.ensures.put))

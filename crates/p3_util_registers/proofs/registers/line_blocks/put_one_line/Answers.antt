@@ -1,17 +1,17 @@
 -- The first column that is in registers is put.
 use Rattle.std.proofs.Common.{◌≡◌, ◌+◌, ◌*◌, inl, refl, arith}
 use Rattle.p3_util_registers.specs.Registers.{items_of_four}
-use Rattle.p3_util_registers.proofs.RegistersLines.{ColumnsPut-of_8, ColumnsPut-of_16, other, some}
+use Rattle.p3_util_registers.proofs.RegistersLines.{ColumnsPut-of_8, ColumnsPut-of_16}
 use Rattle.p3_util_registers.proofs.registers.line_blocks.put_one_line.Goals as goal
 
 pub load_lines-top-requires-clause-reached : goal.load_lines-top-requires-clause-reached
 load_lines-top-requires-clause-reached g c r h =
     let at : c.args.block.from + r * c.args.block.width + 0 ≡ c.args.block.from + r * c.args.block.width = omega arith in
-    rw at at (c.requires.reads r 0 (omega (arith, c.requires.lines, some c.requires.some_side)) (inl refl))
+    rw at at (c.requires.reads r 0 (grind (arith, c.requires.lines, c.requires.some_side)) (inl refl))
 
 pub load_lines-bottom-requires-clause-reached : goal.load_lines-bottom-requires-clause-reached
 load_lines-bottom-requires-clause-reached g c r h =
-    let half = other c.requires.some_side c.SIDE-side.ensures c.if-side-eq2.false in
+    let half : g.D.Register.SIDE ≡ 4 = grind (arith, c.requires.some_side, c.SIDE-side.ensures, c.if-side-eq2.false) in
     let at : c.args.block.from + (8 + r) * c.args.block.width + 0 ≡ c.args.block.from + 8 * c.args.block.width + r * c.args.block.width = omega arith in
     rw at at (c.requires.reads (8 + r) 0 (omega (arith, half, c.requires.lines)) (inl refl))
 
@@ -23,7 +23,7 @@ returns-then-side-eq2-clause-put g c =
 
 pub returns-clause-put : goal.returns-clause-put
 returns-clause-put g c =
-    let half = other c.requires.some_side c.SIDE-side.ensures c.if-side-eq2.false in
+    let half : g.D.Register.SIDE ≡ 4 = grind (arith, c.requires.some_side, c.SIDE-side.ensures, c.if-side-eq2.false) in
     let first : c.args.block.from ≡ c.args.block.from + 0 = omega arith in
     ColumnsPut-of_16 g.D.Register.SIDE 0 0 c.args.block.cols c.args.block _ _ _ _ _ c.requires.lines (g.met.D.Register.full _) (omega (arith, c.requires.one)) c.put_line-2.ensures.stored
     half (items_of_four g.D.Register.items c.load_lines-top.result) (items_of_four g.D.Register.items c.load_lines-bottom.result) (rw first at c.load_lines-top.ensures) (rw first at c.load_lines-bottom.ensures) 0 (omega arith) (omega arith) (λ r. refl) (λ r. refl)
