@@ -4,24 +4,16 @@ use Rattle.p3_util_registers.proofs.RegistersLines.{ColumnsPut-line, column_of_t
 use Rattle.p3_util_registers.proofs.registers.line_blocks.put_four.Goals as goal
 
 pub load_two-a-requires-clause-first : goal.load_two-a-requires-clause-first
-load_two-a-requires-clause-first g c =
-    let at : c.args.block.from + 0 * c.args.block.width + c.args.col ≡ c.args.block.from + c.args.col = omega arith in
-    rw at at (c.requires.reads 0 c.args.col (omega (arith, c.requires.lines)) (inr (omega (arith, c.requires.side, c.requires.below))))
+load_two-a-requires-clause-first g c = grind (arith, c.requires.reads 0 c.args.col (omega (arith, c.requires.lines)) (inr (omega (arith, c.requires.side, c.requires.below))))
 
 pub load_two-a-requires-clause-second : goal.load_two-a-requires-clause-second
-load_two-a-requires-clause-second g c =
-    let at : c.args.block.from + 1 * c.args.block.width + c.args.col ≡ c.args.block.from + c.args.col + c.args.block.width = omega arith in
-    rw at at (c.requires.reads 1 c.args.col (omega (arith, c.requires.lines)) (inr (omega (arith, c.requires.side, c.requires.below))))
+load_two-a-requires-clause-second g c = grind (arith, c.requires.reads 1 c.args.col (omega (arith, c.requires.lines)) (inr (omega (arith, c.requires.side, c.requires.below))))
 
 pub load_two-b-requires-clause-first : goal.load_two-b-requires-clause-first
-load_two-b-requires-clause-first g c =
-    let at : c.args.block.from + 2 * c.args.block.width + c.args.col ≡ c.args.block.from + c.args.col + 2 * c.args.block.width = omega arith in
-    rw at at (c.requires.reads 2 c.args.col (omega (arith, c.requires.lines)) (inr (omega (arith, c.requires.side, c.requires.below))))
+load_two-b-requires-clause-first g c = grind (arith, c.requires.reads 2 c.args.col (omega (arith, c.requires.lines)) (inr (omega (arith, c.requires.side, c.requires.below))))
 
 pub load_two-b-requires-clause-second : goal.load_two-b-requires-clause-second
-load_two-b-requires-clause-second g c =
-    let at : c.args.block.from + 3 * c.args.block.width + c.args.col ≡ c.args.block.from + c.args.col + 3 * c.args.block.width = omega arith in
-    rw at at (c.requires.reads 3 c.args.col (omega (arith, c.requires.lines)) (inr (omega (arith, c.requires.side, c.requires.below))))
+load_two-b-requires-clause-second g c = grind (arith, c.requires.reads 3 c.args.col (omega (arith, c.requires.lines)) (inr (omega (arith, c.requires.side, c.requires.below))))
 
 pub returns-clause-put : goal.returns-clause-put
 returns-clause-put g c =

@@ -1,19 +1,16 @@
 -- The first column that is in registers is put.
-use Rattle.std.proofs.Common.{◌≡◌, ◌+◌, ◌*◌, inl, refl, arith}
+use Rattle.std.proofs.Common.{◌≡◌, ◌+◌, inl, refl, arith}
 use Rattle.p3_util_registers.specs.Registers.{items_of_four}
 use Rattle.p3_util_registers.proofs.RegistersLines.{ColumnsPut-of_8, ColumnsPut-of_16}
 use Rattle.p3_util_registers.proofs.registers.line_blocks.put_one_line.Goals as goal
 
 pub load_lines-top-requires-clause-reached : goal.load_lines-top-requires-clause-reached
-load_lines-top-requires-clause-reached g c r h =
-    let at : c.args.block.from + r * c.args.block.width + 0 ≡ c.args.block.from + r * c.args.block.width = omega arith in
-    rw at at (c.requires.reads r 0 (grind (arith, c.requires.lines, c.requires.some_side)) (inl refl))
+load_lines-top-requires-clause-reached g c r h = grind (arith, c.requires.reads r 0 (grind (arith, c.requires.lines, c.requires.some_side)) (inl refl))
 
 pub load_lines-bottom-requires-clause-reached : goal.load_lines-bottom-requires-clause-reached
 load_lines-bottom-requires-clause-reached g c r h =
     let half : g.D.Register.SIDE ≡ 4 = grind (arith, c.requires.some_side, c.SIDE-side.ensures, c.if-side-eq2.false) in
-    let at : c.args.block.from + (8 + r) * c.args.block.width + 0 ≡ c.args.block.from + 8 * c.args.block.width + r * c.args.block.width = omega arith in
-    rw at at (c.requires.reads (8 + r) 0 (omega (arith, half, c.requires.lines)) (inl refl))
+    grind (arith, c.requires.reads (8 + r) 0 (omega (arith, half, c.requires.lines)) (inl refl))
 
 pub returns-then-side-eq2-clause-put : goal.returns-then-side-eq2-clause-put
 returns-then-side-eq2-clause-put g c =

@@ -1,5 +1,5 @@
 -- The columns that are in registers are put from the first to the last.
-use Rattle.std.proofs.Common.{◌≡◌, ◌+◌, ◌-◌, ◌*◌, ◌≤◌, inr, refl, arith}
+use Rattle.std.proofs.Common.{◌≡◌, ◌+◌, ◌-◌, ◌≤◌, inr, refl, arith}
 use Rattle.p3_util_registers.specs.Registers.{items_of_four}
 use Rattle.p3_util_registers.proofs.RegistersBlocks.{ColumnsPut-joined}
 use Rattle.p3_util_registers.proofs.RegistersLines.{ColumnsPut-of_8, ColumnsPut-of_16}
@@ -13,9 +13,8 @@ load_lines-top-requires-clause-inside g c r h =
 
 pub load_lines-top-requires-clause-reached : goal.load_lines-top-requires-clause-reached
 load_lines-top-requires-clause-reached g c r h =
-    let at : c.args.block.from + r * c.args.block.width + c.args.col ≡ c.args.block.from + c.args.col + r * c.args.block.width = omega arith in
     let at_least : 2 ≤ g.D.Register.SIDE = grind (arith, c.requires.some_side) in
-    rw at at (c.requires.reads r c.args.col (omega (arith, c.requires.lines, at_least)) (inr c.requires.below))
+    grind (arith, c.requires.reads r c.args.col (omega (arith, c.requires.lines, at_least)) (inr c.requires.below))
 
 pub overflow_mul-block : goal.overflow_mul-block
 overflow_mul-block g c =
@@ -35,8 +34,7 @@ load_lines-bottom-requires-clause-inside g c r h =
 pub load_lines-bottom-requires-clause-reached : goal.load_lines-bottom-requires-clause-reached
 load_lines-bottom-requires-clause-reached g c r h =
     let half : g.D.Register.SIDE ≡ 4 = grind (arith, c.requires.some_side, c.SIDE-side.ensures, c.if-side-eq2.false) in
-    let at : c.args.block.from + (8 + r) * c.args.block.width + c.args.col ≡ c.args.block.from + c.args.col + 8 * c.args.block.width + r * c.args.block.width = omega arith in
-    rw at at (c.requires.reads (8 + r) c.args.col (omega (arith, half, c.requires.lines)) (inr c.requires.below))
+    grind (arith, c.requires.reads (8 + r) c.args.col (omega (arith, half, c.requires.lines)) (inr c.requires.below))
 
 pub put_line-requires-then-side-eq2-clause-room : goal.put_line-requires-then-side-eq2-clause-room
 put_line-requires-then-side-eq2-clause-room g c r h = omega (arith, c.requires.block.room r (c.args.col + 1) h (grind (arith, c.requires.below, c.requires.some_side)), c.put_line.ensures.stored.same_length)
