@@ -95,20 +95,8 @@ AreStored-more k side to regs items old now next same apart before step = record
 AreInterleaved-both : {A : Type 0} (n : ℕ) (a b low high : List A) → length low ≡ 2 * n → AreInterleaved n 0 0 a b low → AreInterleaved n n n a b high
     → AreInterleaved (2 * n) 0 0 a b (low ++ high)
 AreInterleaved-both n a b low high full front back = record {
-  first = λ t h.
-      elim (cases_lt t n) [
-        | inl early ↦ slice_get-append_left low high (2 * t) (omega arith) ∙ front.first t early
-        | inr late ↦
-            let at : n + (t - n) ≡ 0 + t = omega arith in
-            slice_get-append_right low high (2 * t) (2 * (t - n)) (omega arith) ∙ rw at at (back.first (t - n) (omega arith))
-      ];
-  second = λ t h.
-      elim (cases_lt t n) [
-        | inl early ↦ slice_get-append_left low high (2 * t + 1) (omega arith) ∙ front.second t early
-        | inr late ↦
-            let at : n + (t - n) ≡ 0 + t = omega arith in
-            slice_get-append_right low high (2 * t + 1) (2 * (t - n) + 1) (omega arith) ∙ rw at at (back.second (t - n) (omega arith))
-      ];
+  first = λ t h. grind (arith, slice_get-append_left low high (2 * t), slice_get-append_right low high (2 * t) (2 * (t - n)), front.first t, back.first (t - n));
+  second = λ t h. grind (arith, slice_get-append_left low high (2 * t + 1), slice_get-append_right low high (2 * t + 1) (2 * (t - n) + 1), front.second t, back.second (t - n));
 }
 
 -- the first halves of two pairs are interleaved

@@ -1,6 +1,5 @@
 -- Blocks whose columns are put one after another.
 use Rattle.std.proofs.Common.{◌≡◌, ℕ, ◌+◌, ◌-◌, ◌*◌, ◌/◌, ◌%◌, ◌<◌, ◌⊎◌, List, ◌++◌, length, slice_get, slice_index, inl, inr, refl, sym, ◌∙◌, arith}
-use Rattle.std.proofs.lemmas.Bool.{cases_lt}
 use Rattle.p3_util_kernels.specs.Stages.{item_at}
 use Rattle.p3_util_kernels.specs.declared.places.bulk.Block.{Block}
 use Rattle.p3_util_registers.specs.RegisterLines.{AreLines}
@@ -44,46 +43,14 @@ pub IsRunStored-two : {A : Type 0} (side to : ℕ) (a b old mid new : List A) �
 IsRunStored-two side to a b old mid new full one two = record {
   same_length = two.same_length ∙ one.same_length;
   run = λ t h.
-      elim (cases_lt t (2 * side)) [
-        | inl front ↦
-            two.others (to + t) (inl (omega arith)) (inl (omega arith))
-            ∙ elim (cases_lt t side) [
-              | inl early ↦ one.first t early
-              | inr late ↦
-                  let at : to + side + (t - side) ≡ to + t = omega arith in
-                  let of : side + (t - side) ≡ t = omega arith in
-                  rw (at, of) at (one.second (t - side) (omega arith))
-            ]
-            ∙ sym (slice_get-append_left a b t (omega arith))
-        | inr back ↦
-            elim (cases_lt t (3 * side)) [
-              | inl early ↦
-                  let at : to + 2 * side + (t - 2 * side) ≡ to + t = omega arith in
-                  rw at at (two.first (t - 2 * side) (omega arith))
-              | inr late ↦
-                  let at : to + 3 * side + (t - 3 * side) ≡ to + t = omega arith in
-                  let of : side + (t - 3 * side) ≡ t - 2 * side = omega arith in
-                  rw (at, of) at (two.second (t - 3 * side) (omega arith))
-            ]
-            ∙ sym (slice_get-append_right a b t (t - 2 * side) (omega arith))
-      ];
-  others = λ p out.
-      elim out [
-        | inl before ↦ two.others p (inl (omega arith)) (inl (omega arith)) ∙ one.others p (inl (omega arith)) (inl (omega arith))
-        | inr after ↦ two.others p (inr (omega arith)) (inr (omega arith)) ∙ one.others p (inr (omega arith)) (inr (omega arith))
-      ];
+      grind (arith, slice_get-append_left a b t, slice_get-append_right a b t (t - 2 * side), two.others (to + t), one.first t, one.second (t - side), two.first (t - 2 * side), two.second (t - 3 * side));
+  others = λ p out. grind (arith, out, two.others p, one.others p);
 }
 
 -- a column in two registers
 pub column_of_two : {A : Type 0} (n base width : ℕ) (input a b : List A) → length a ≡ n → ((r : ℕ) → r < n → slice_get a r ≡ slice_get input (base + r * width))
     → ((r : ℕ) → r < n → slice_get b r ≡ slice_get input (base + (n + r) * width)) → (r : ℕ) → r < 2 * n → slice_get (a ++ b) r ≡ slice_get input (base + r * width)
-column_of_two n base width input a b full of_a of_b r h =
-    elim (cases_lt r n) [
-      | inl early ↦ slice_get-append_left a b r (omega arith) ∙ of_a r early
-      | inr late ↦
-          let at : n + (r - n) ≡ r = omega arith in
-          slice_get-append_right a b r (r - n) (omega arith) ∙ rw at at (of_b (r - n) (omega arith))
-    ]
+column_of_two n base width input a b full of_a of_b r h = grind (arith, slice_get-append_left a b r, slice_get-append_right a b r (r - n), of_a r, of_b (r - n))
 
 -- a column of a block is stored
 pub ColumnsPut-line : {A : Type 0} (block : Block) (n to base col : ℕ) (input items old new : List A) → n ≡ block.rows → to ≡ block.to + col * block.height → base ≡ block.from + col
@@ -145,14 +112,4 @@ module _ {A : Type 0} (side col this next : ℕ) (block : Block) (input a b old 
 -- a register of two items of a column
 pub of_pair : {A : Type 0} (base second width : ℕ) (list a : List A) → second ≡ base + width → AreInterleaved 1 base second list list a
     → (r : ℕ) → r < 2 → slice_get a r ≡ slice_get list (base + r * width)
-of_pair base second width list a next both r h =
-    elim (cases_lt r 1) [
-      | inl first ↦
-          let zero : r ≡ 0 = omega (arith, first) in
-          let at : base + 0 ≡ base + 0 * width = omega arith in
-          rw zero (rw at at (both.first 0 (omega arith)))
-      | inr last ↦
-          let one : r ≡ 1 = omega (arith, h, last) in
-          let at : second + 0 ≡ base + 1 * width = omega (arith, next) in
-          rw one (rw at at (both.second 0 (omega arith)))
-    ]
+of_pair base second width list a next both r h = grind (arith, both.first 0, both.second 0)
