@@ -10,9 +10,7 @@ use Rattle.p3_util_registers.proofs.RegistersTiles.{AreDisjoint-rows, SquaresMov
 
 -- what is in one column is before the next one
 column_before : (a b height : ℕ) → a < b → a * height + height ≤ b * height
-column_before a b height h =
-    let next : a + 1 ≤ b = omega arith in
-    omega (arith, mul-le-mul_right height next)
+column_before a b height h = omega (arith, mul-le-mul_right {m = a + 1} {n = b} height (omega arith))
 
 -- what is in a row of a block is also a row that comes again
 row_in_block : (side c : ℕ) → (side ≡ 4) ⊎ (side ≡ 8) → (c % side < side) × (c < side → c % side ≡ c)
@@ -55,21 +53,14 @@ module _ (side : ℕ) (block : Block) (col input_len len : ℕ) (is : IsSide sid
 module _ (block : Block) (input_len len : ℕ) (fits : BlockFits block input_len len) where
   -- a cell belongs to only one column
   one_column : (r c v w : ℕ) → r < block.rows → v < block.rows → c ≢ w → block.to + c * block.height + r ≢ block.to + w * block.height + v
-  one_column r c v w hr hv other e =
-      elim (cases_lt c w) [
-        | inl less ↦ omega (arith, fits.apart, column_before c w block.height less)
-        | inr more ↦ omega (arith, fits.apart, column_before w c block.height (omega arith))
-      ]
+  one_column r c v w hr hv other e = grind (arith, fits.apart, column_before c w block.height, column_before w c block.height)
 
   -- some columns are put, and then those that follow them
   pub ColumnsPut-joined : {A : Type 0} (a b d : ℕ) (input old mid new : List A) → a ≤ b → b ≤ d → ColumnsPut a b block input old mid → ColumnsPut b d block input mid new → ColumnsPut a d block input old new
   ColumnsPut-joined a b d input old mid new up more one two = record {
     same_length = two.same_length ∙ one.same_length;
     places = λ r c hr h k.
-        elim (cases_lt c b) [
-          | inl early ↦ two.others _ (λ v w hv i j e. one_column r c v w hr hv (omega arith) e) ∙ one.places r c hr h early
-          | inr late ↦ two.places r c hr late k
-        ];
+        elim (cases_lt c b) [ inl early ↦ two.others _ (λ v w hv i j e. one_column r c v w hr hv (omega arith) e) ∙ one.places r c hr h early | inr late ↦ two.places r c hr late k ];
     others = λ p out. two.others p (λ r c hr h k. out r c hr (omega arith) k) ∙ one.others p (λ r c hr h k. out r c hr h (omega arith));
   }
 

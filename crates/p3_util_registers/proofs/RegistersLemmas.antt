@@ -68,11 +68,7 @@ AreStored-more k side to regs items old now next same apart before step = record
   same_length = step.same_length ∙ before.same_length;
   rows = λ c t hc ht.
       elim (cases_lt c (2 * k)) [
-        | inl less ↦
-            step.others (slice_index to c + t)
-            (elim (apart c (2 * k) less (omega arith)) [ inl u ↦ inl (omega arith) | inr u ↦ inr (omega arith) ])
-            (elim (apart c (2 * k + 1) (omega arith) (omega arith)) [ inl u ↦ inl (omega arith) | inr u ↦ inr (omega arith) ])
-            ∙ before.rows c t less ht
+        | inl less ↦ grind (arith, step.others (slice_index to c + t), apart c (2 * k) less, apart c (2 * k + 1), before.rows c t less ht)
         | inr more ↦
             elim (cases_eq c (2 * k)) [
               | inl first ↦

@@ -1,6 +1,6 @@
 -- The halves of registers, stored one after another in any order.
 use Rattle.std.proofs.Common.{◌≡◌, ◌≢◌, ℕ, ◌+◌, ◌*◌, ◌/◌, ◌%◌, ◌<◌, ◌≤◌, ◌⊎◌, List, length, slice_get, slice_index, inl, inr, refl, sym, ap, ◌∙◌, arith}
-use Rattle.std.proofs.lemmas.Bool.{cases_eq, cases_lt}
+use Rattle.std.proofs.lemmas.Bool.{cases_eq}
 use Rattle.p3_util_kernels.specs.Stages.{item_at}
 use Rattle.p3_util_registers.specs.Registers.{AreDisjoint, AreStored, IsRunStored}
 
@@ -30,12 +30,8 @@ module _ (count side : ℕ) (to : List ℕ) (apart : AreDisjoint count side to) 
   away : (i n : ℕ) → i < n → n < count → (t : ℕ) → t < side
       → (slice_index to (run i) + t < slice_index to (run n)) ⊎ (slice_index to (run n) + side ≤ slice_index to (run i) + t)
   away i n h k t ht =
-      elim (cases_lt (run i) (run n)) [
-        | inl less ↦ elim (apart (run i) (run n) less (inside n k)) [ inl u ↦ inl (omega arith) | inr u ↦ inr (omega arith) ]
-        | inr more ↦
-            let differ : run n ≢ run i = λ e. let same : n ≡ i = sym (is_back n k) ∙ ap back e ∙ is_back i (omega arith) in omega (arith, same) in
-            elim (apart (run n) (run i) (omega (arith, more, differ)) (inside i (omega arith))) [ inl u ↦ inr (omega arith) | inr u ↦ inl (omega arith) ]
-      ]
+      let differ : run i ≢ run n = λ e. let same : i ≡ n = sym (is_back i (omega arith)) ∙ ap back e ∙ is_back n k in omega (arith, same) in
+      grind (arith, differ, apart (run i) (run n), apart (run n) (run i), inside i, inside n k)
 
   -- one more run is stored
   pub AreRunsStored-more : {A : Type 0} (regs : List (List A)) (n : ℕ) (half old now next : List A) → n < count
@@ -43,11 +39,7 @@ module _ (count side : ℕ) (to : List ℕ) (apart : AreDisjoint count side to) 
       → AreRunsStored n side run to regs old now → IsRunStored side (slice_index to (run n)) half now next → AreRunsStored (n + 1) side run to regs old next
   AreRunsStored-more regs n half old now next less same before step = record {
     same_length = step.same_length ∙ before.same_length;
-    runs = λ i t hi ht.
-        elim (cases_eq i n) [
-          | inl last ↦ rw last (step.run t ht ∙ same t ht)
-          | inr other ↦ step.others _ (away i n (omega arith) less t ht) ∙ before.runs i t (omega arith) ht
-        ];
+    runs = λ i t hi ht. elim (cases_eq i n) [ inl last ↦ rw last (step.run t ht ∙ same t ht) | inr other ↦ step.others _ (away i n (omega arith) less t ht) ∙ before.runs i t (omega arith) ht ];
     others = λ p out. step.others p (out n (omega arith)) ∙ before.others p (λ i h. out i (omega arith));
   }
 

@@ -74,11 +74,7 @@ module _ (n side : ℕ) (known : (n ≡ 4) ⊎ (n ≡ 8)) (is : IsSide side) (sm
               | inl one ↦ let tops : top (a - a % side) ≡ top (b - b % side) = ap top one in absurd (omega (arith, row_most side is a, row_most side is b))
               | inr next ↦ inl (omega arith)
             ]
-        | inr other ↦
-            elim (cases_lt row_a row_b) [
-              | inl less ↦ elim (apart row_a row_b less in_b) [ inl u ↦ inl (omega arith) | inr u ↦ inr (omega arith) ]
-              | inr more ↦ elim (apart row_b row_a (omega arith) in_a) [ inl u ↦ inr (omega arith) | inr u ↦ inl (omega arith) ]
-            ]
+        | inr other ↦ grind (arith, other, at_a, at_b, up_a, up_b, in_a, in_b, apart row_a row_b, apart row_b row_a)
       ]
 
   -- row r of the list and column c are in row `place` of the squares
