@@ -52,7 +52,7 @@ P3_UTIL_CHECK bool p3_util_reverse_64(void *vals, size_t len);
 
 /*
  * Reverses the order of rows of row_width items by index bits, and moves each row as one item. The condition is that
- * len, the number of items, is row_width times zero or a power of two. Items of a size without a call of its own can be
+ * len, the number of items, is zero or row_width times a power of two. Items of a size without a call of its own can be
  * moved as rows of smaller items: an item of 36 bytes is a row of three items of 12 bytes. If a call above has the size
  * of a row, that call is faster: for rows of 64 bytes use p3_util_reverse_64.
  */

@@ -270,7 +270,7 @@ fn order_of<S: PutRegion>(is_large: bool, strips: S) -> Order<S> {
     }
 }
 
-/// Puts a region past the caches: by cache lines of the output, or in low strips.
+/// Puts a region past the caches: by cache lines of the output, or in strips of `STREAMED_ROWS` rows.
 #[inline(never)]
 fn put_streamed<M: Output, R: Ahead<Item = M::Item> + Copy>(
     cells: M,

@@ -403,7 +403,7 @@ pub(super) fn block([rows, cols]: [usize; 2], [from, width]: [usize; 2], [to, he
 }
 
 /// Puts a block by a holder.
-#[cfg(any(debug_assertions, all(target_os = "linux", not(feature = "checked"))))]
+#[cfg(any(debug_assertions, feature = "checked", target_os = "linux"))]
 pub(super) fn put_block<T: Copy, H: Put<T>>(cells: &mut [T], source: &[T], block: Block) {
     H::hold(cells).put_block(&H::source(source), block);
 }
