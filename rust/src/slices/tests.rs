@@ -659,7 +659,7 @@ mod refused {
     }
 
     /// An item that is stored past the caches has to be inside the list, too.
-    #[cfg(not(feature = "checked"))]
+    #[cfg(all(not(feature = "checked"), not(miri)))]
     #[test]
     fn items_past_the_caches() {
         let mut list = Aligned([[7_u32; 8]; 600]);
