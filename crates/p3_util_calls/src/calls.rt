@@ -8,13 +8,13 @@ ghost use Rattle.p3_util_kernels.specs.SwapCounts.{row_swaps};
 ghost use Rattle.p3_util_kernels.specs.Transpose.{IsTranspose};
 
 use crate::choice::{
-    FAR_COLUMNS, LONG_BYTES, Limits, SHORT_COLUMN, STREAMED_ROWS, few_items_of, has_lines, is_far,
-    is_streamed, row_blocks_of, side_of, strips_of,
+    LONG_BYTES, Limits, SEVERAL_COLUMNS, SHORT_COLUMN, few_items_of, has_lines, row_blocks_of,
+    side_of, strips_of,
 };
 use crate::lines::Lines;
 use p3_util_kernels::kernel::{
-    Ahead, Blocked, Blocks, Columns, InCols, InRows, LARGE_MATRIX, Matrix, Order, Outlined,
-    PutColumn, PutRegion, RowDigits, ShortColumns, Tiled, UNIT, put_as_block,
+    Ahead, Blocked, Blocks, Columns, HIGH_ROWS, InCols, InRows, Matrix, PutColumn, PutRegion,
+    RowDigits, ShortColumns, Strips, Tiled, UNIT, put_as_block,
 };
 use p3_util_kernels::places::{Cells, Source};
 use p3_util_kernels::transpose::Region;
@@ -191,22 +191,21 @@ fn transpose_apart<M: Output, R: Ahead<Item = M::Item> + Copy>(
 ) -> M
     requires input_fits { length (R.items source) ≡ width * height }
     requires output_fits { length (M.items cells) ≡ width * height }
+    requires len_fits { length (R.items source) < 2 ^ 64 }
     ensures order { IsTranspose width height (R.items source) (M.items result) }
     ensures holder { M.same_holder (width * height) cells result }
 {
     let matrix = Matrix::new(source, width, height);
     let whole = matrix.whole();
-    let is_large = source.len() > LARGE_MATRIX;
-    put_region(cells, matrix, whole, is_large)
+    put_region(cells, matrix, whole)
 }
 
-/// Puts a region of a matrix. If it `is_large`, and is not put past the caches, it is put by leaves.
+/// Puts a region of a matrix that is neither copied nor one block, and has many items or long ones.
 #[inline(always)]
 fn put_region<M: Output, R: Ahead<Item = M::Item> + Copy>(
     cells: M,
     matrix: Matrix<R>,
     region: Region,
-    is_large: bool,
 ) -> M
     requires { IsReady region matrix.width matrix.height (R.items matrix.source) (M.items cells) }
     ensures transposed { IsRegionTransposed region matrix.width matrix.height
@@ -214,63 +213,33 @@ fn put_region<M: Output, R: Ahead<Item = M::Item> + Copy>(
     ensures holder { M.same_holder (items_of region) cells result }
 {
     let (size, width, height) = (M::SIZE, matrix.width, matrix.height);
-    // At most `LARGE_MATRIX` items have the bytes of `Limits` only if they are long.
-    let may_be_streamed = is_large || is_streamed(size);
-    if M::HAS_LINES && may_be_streamed && M::limits().fit(size, matrix, region, cells.address()) {
+    if M::HAS_LINES && M::limits().fit(size, matrix, region, cells.address()) {
         return put_streamed(cells, matrix, region);
     }
     if M::IS_LONG {
         let columns = InRows::<UNIT, _, _>(LongColumns, LongColumns);
-        return order_of(is_large, columns).put(cells, matrix, region);
+        return columns.put(cells, matrix, region);
     }
     if M::TESTS_INDICES {
         if let Some(blocks) = row_blocks_of(size, width, height) {
-            return order_of(is_large, blocks).put(cells, matrix, region);
+            return columns_at_a_time(blocks).put(cells, matrix, region);
         }
     }
-    put_by_strips(cells, matrix, region, is_large)
-}
-
-/// Puts a region by strips. If it `is_large`, it is put by leaves.
-#[inline(always)]
-fn put_by_strips<M: Output, R: Ahead<Item = M::Item> + Copy>(
-    cells: M,
-    matrix: Matrix<R>,
-    region: Region,
-    is_large: bool,
-) -> M
-    requires { IsReady region matrix.width matrix.height (R.items matrix.source) (M.items cells) }
-    ensures transposed { IsRegionTransposed region matrix.width matrix.height
-        (R.items matrix.source) (M.items cells) (M.items result) }
-    ensures holder { M.same_holder (items_of region) cells result }
-{
-    let (size, width, height) = (M::SIZE, matrix.width, matrix.height);
-    let far = !M::TESTS_INDICES && is_far(size, width, height);
     // The side is a constant, so that an instance has no code for other squares.
     match M::SIDE {
-        4 => order_of(is_large, strips_of::<4>(size, far, width)).put(cells, matrix, region),
-        8 => order_of(is_large, strips_of::<8>(size, far, width)).put(cells, matrix, region),
-        _ => {
-            let strips = strips_of::<1>(size, far, width);
-            if far && !is_large {
-                return InCols::<FAR_COLUMNS, _, _>(strips, strips).put(cells, matrix, region);
-            }
-            order_of(is_large, strips).put(cells, matrix, region)
-        }
+        4 => columns_at_a_time(strips_of::<4>(width)).put(cells, matrix, region),
+        8 => columns_at_a_time(strips_of::<8>(width)).put(cells, matrix, region),
+        _ => columns_at_a_time(strips_of::<1>(width)).put(cells, matrix, region),
     }
 }
 
-/// The order of a region that is not put past the caches.
+/// Puts [`SEVERAL_COLUMNS`] at a time in this way.
 #[inline(always)]
-fn order_of<S: PutRegion>(is_large: bool, strips: S) -> Order<S> {
-    if is_large {
-        Order::Leaves(strips)
-    } else {
-        Order::Strips(strips)
-    }
+fn columns_at_a_time<S: PutRegion>(way: S) -> InCols<SEVERAL_COLUMNS, S, S> {
+    InCols(way, way)
 }
 
-/// Puts a region past the caches: by cache lines of the output, or in strips of `STREAMED_ROWS` rows.
+/// Puts a region past the caches: by cache lines of the output, or in low strips.
 #[inline(never)]
 fn put_streamed<M: Output, R: Ahead<Item = M::Item> + Copy>(
     cells: M,
@@ -289,8 +258,7 @@ fn put_streamed<M: Output, R: Ahead<Item = M::Item> + Copy>(
             cells.put_past_caches(lines, matrix, region)
         }
         _ => {
-            let columns = Outlined(Columns);
-            let strips = InRows::<STREAMED_ROWS, _, _>(columns, columns);
+            let strips = Strips::<1, HIGH_ROWS>::Low;
             cells.put_past_caches(strips, matrix, region)
         }
     }
@@ -353,7 +321,7 @@ pub(crate) fn transpose_region<M: Output, R: Ahead<Item = M::Item> + Copy>(
     if region.rows() == matrix.height && region.cols() == matrix.width {
         transpose_whole(cells, matrix.source, matrix.width, matrix.height)
     } else {
-        put_region(cells, matrix, region, true)
+        put_region(cells, matrix, region)
     }
 }
 

@@ -10,7 +10,7 @@ pub use crate::places::bulk::{Ahead, Block, Blocked, Tiled};
 #[doc(hidden)]
 pub use crate::reverse::rows::{RowDigits, reverse_rows, reverse_short};
 #[doc(hidden)]
-pub use crate::transpose::order::{LARGE_MATRIX, Order, TINY_MATRIX};
+pub use crate::transpose::order::TINY_MATRIX;
 #[doc(hidden)]
 pub use crate::transpose::regions::Matrix;
 #[doc(hidden)]

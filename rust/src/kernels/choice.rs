@@ -9,22 +9,15 @@
 //! | a whole call, fewer than two rows or columns | as a copy | its items keep their order |
 //! | a whole call, one block: [`side_of`] | as this block | in registers |
 //! | a whole call, fewer than 256 items of less than 1 KiB, or 128 with blocks in registers: [`few_items_of`], [`LONG_BYTES`] | column after column, in code that is inlined without debug assertions | another call would take as long |
-//! | 32 MiB and more, items of 32, 48, .. 128 bytes at a multiple of 16: [`is_streamed`], 128 bytes and more in a row of the matrix or part, and 320 in a column: [`Limits`] | in strips of 24 rows: [`STREAMED_ROWS`], past the caches | what is stored past the caches is not read first. Only whole lines are fast, and a column of such a strip has 10 or more of them between the two parts of lines at its ends |
-//! | a whole call, up to 1048576 items: `LARGE_MATRIX` | in strips | the lines and pages in use stay in the caches |
-//! | 16 MiB and more, items of 4, 8 or 16 bytes at a multiple of their size, 128 bytes and more in a row of the matrix or part, and 320 in a column | by lines, past the caches | a column of a strip would have few whole lines |
-//! | all others | in leaves, with the same strips | a leaf stays in the caches |
+//! | 16 MiB and more of items of 4, 8 or 16 bytes, or 32 MiB and more of items of 32, 48, .. 128 bytes, whose rows and columns in the matrix or part have 320 bytes and more: [`Limits`] | past the caches: short items by lines, the others in low strips | what is stored past the caches is not read first. Only whole lines are fast, and a column has at least 4 of them between the two parts of lines at its ends |
+//! | all others | in strips, 512 columns at a time: [`SEVERAL_COLUMNS`] | the lines in which the cells of a strip end are still in the second-level cache when those of the next strip begin in them |
 //!
 //! | Items | Strips | Why |
 //! |---|---|---|
 //! | 1 or 2 bytes | high, by blocks of 8 by 8 | a register holds one or two rows of such a block |
 //! | 4 or 8 bytes | high, by blocks of 4 by 4. On aarch64, by blocks of 8 by 8 | a register holds a row of 4, or half a row. See [`side_of`] |
 //! | 1 KiB and more | of 16 rows, column after column, each item by a function of its own | in a build without optimization, other functions would have copies of it on the stack |
-//! | 12 bytes and more but 16: `FAR_ITEM`, `VECTOR`, in a list of more than 512 KiB: `FAR_LIST` | low, column after column | see [`strips_of`] |
-//! | 16 bytes, in such a list | low if 16 divides the width, otherwise high, column after column | see `Strips::by_width` |
-//! | all others | lowest if 16 divides the width, otherwise high, column after column. For 16 bytes, low if 8 divides it | see [`strips_of`] |
-//!
-//! Strips of items of 12 bytes and more have at most 512 columns, [`FAR_COLUMNS`], if the list has more than 512 KiB. The cells of
-//! the next strip begin in the lines in which those of this one end, which are then still in the second-level cache.
+//! | all others | lowest if 16 divides the width, otherwise low, column after column | see [`strips_of`] |
 //!
 //! Items are put past the caches on x86-64, and by blocks where they are transposed in registers. Elsewhere these rows fit no
 //! matrix. Where each index is tested, [`row_blocks_of`] comes before the strips.
@@ -44,34 +37,20 @@ const TINY_IN_REGISTERS: usize = 128;
 /// instructions, most of all in a build without optimization for speed.
 pub(crate) const SHORT_COLUMN: usize = 8;
 
-/// A list of more bytes and its transpose do not fit together in a cache of 1 MiB, which is of the second level.
-const FAR_LIST: usize = 1 << 19;
+/// So many columns of a matrix are put at a time.
+pub(crate) const SEVERAL_COLUMNS: usize = 512;
 
-/// The least number of bytes of an item for which it matters that a list is far.
-const FAR_ITEM: usize = 12;
-
-/// The bytes of a vector register. Far items that are as long take less time by high strips.
+/// The bytes of a vector register.
 const VECTOR: usize = 16;
-
-/// If the width of a matrix of items of 16 bytes is a multiple of this, its strips are low.
-const HALF_UNIT: usize = 8;
-
-/// The greatest number of columns of a strip of far items.
-pub(crate) const FAR_COLUMNS: usize = 512;
 
 /// Longer items take no less time past the caches.
 const STREAMED_ITEM: usize = 128;
 
-/// The rows of a strip of items that are put past the caches one by one.
-pub(crate) const STREAMED_ROWS: usize = 24;
-
-/// Where each index is tested, items of so many bytes are put one by one if their list has more than `ROWS_LONG_LIST` bytes.
-const ROWS_LONG_ITEM: usize = 16;
-
-const ROWS_LONG_LIST: usize = 1 << 19;
+/// A list of more bytes and its transpose do not fit together in a cache of 1 MiB, which is of the second level.
+const FAR_LIST: usize = 1 << 19;
 
 /// Where each index is tested, a matrix with columns of so many bytes is put by blocks of 16 rows.
-const ROWS_LONG_COLUMN: usize = 1 << 9;
+const LONG_COLUMN: usize = 1 << 9;
 
 /// From how many bytes on a matrix is put past the caches.
 #[derive(Clone, Copy)]
@@ -80,10 +59,8 @@ pub(crate) struct Limits {
     pub list: usize,
     /// The same, if an item is longer than a vector register.
     pub long_list: usize,
-    /// Those in a row of the matrix or part.
-    pub row: usize,
-    /// Those in a column.
-    pub column: usize,
+    /// Those in a row of the matrix or part, and those in a column.
+    pub side: usize,
 }
 
 impl Limits {
@@ -93,8 +70,7 @@ impl Limits {
         Limits {
             list: 1 << 24,
             long_list: 1 << 25,
-            row: 128,
-            column: 320,
+            side: 320,
         }
     }
 
@@ -114,49 +90,26 @@ impl Limits {
             _ if is_streamed(size) => (VECTOR, self.long_list),
             _ => return false,
         };
-        at % unit == 0
-            && items.wrapping_mul(size) >= list
-            && region.cols().wrapping_mul(size) >= self.row
-            && region.rows().wrapping_mul(size) >= self.column
+        items.wrapping_mul(size) >= list
+            && at % unit == 0
+            && region.cols().wrapping_mul(size) >= self.side
+            && region.rows().wrapping_mul(size) >= self.side
     }
 }
 
-/// The strips of a matrix of items of `size` bytes, and of the leaves of its parts. If they are put by squares, these have `SIDE`
-/// by `SIDE` items: `SIDE` is [`side_of`] these items. Others are low if the width says so, or if their list `is_far`. A strip is
-/// read column by column, so each of its rows is a stream of its own, and processors read ahead in few of them: in 32 at most.
-/// Items of 16 bytes take less time by high strips, whose columns are longer runs of cells.
-///
-/// In a list that is not far, most heights that come with such a width are multiples of 16, and the compiler knows how many rows
-/// a lowest strip has. Rows of 8 items of 16 bytes are as long as two cache lines, so their distances are multiples of a power of
-/// two, too.
+/// The strips of a matrix. If they are put by squares, these have `SIDE` by `SIDE` items: `SIDE` is [`side_of`] these items. A
+/// strip is read column by column, so each of its rows is a stream of its own, and processors read ahead in few of them: in 32
+/// at most. If 16 divides the width, the lines of its rows may lie in few sets of the cache, and most heights that come with such
+/// a width are multiples of 16. The compiler knows how many rows such a strip has.
 #[inline(always)]
-pub(crate) fn strips_of<const SIDE: usize>(
-    size: usize,
-    is_far: bool,
-    width: usize,
-) -> Strips<SIDE, HIGH_ROWS> {
+pub(crate) fn strips_of<const SIDE: usize>(width: usize) -> Strips<SIDE, HIGH_ROWS> {
     if SIDE > 1 {
         Strips::Squares
-    } else if is_far {
-        if size == VECTOR {
-            Strips::by_width(width)
-        } else {
-            Strips::Low
-        }
     } else if width % UNIT == 0 {
         Strips::Lowest
-    } else if size == VECTOR && width % HALF_UNIT == 0 {
-        Strips::Low
     } else {
-        Strips::High
+        Strips::Low
     }
-}
-
-/// Whether a matrix of items of `size` bytes is *far*: its items are not short, and come from beyond the second-level cache. The
-/// list is in memory, so no product wraps.
-#[inline(always)]
-pub(crate) fn is_far(size: usize, width: usize, height: usize) -> bool {
-    size >= FAR_ITEM && width.wrapping_mul(height).wrapping_mul(size) > FAR_LIST
 }
 
 /// Where each index is tested, a matrix is put by blocks of several rows instead of columns and strips. The holder tests each
@@ -166,15 +119,15 @@ pub(crate) fn is_far(size: usize, width: usize, height: usize) -> bool {
 /// |---|---|---|
 /// | fewer than 256 items: column after column above | none: blocks of 4 rows | such a matrix has few rows |
 /// | items of 1 KiB and more: [`LONG_BYTES`] | none: strips as above | the tests take little of the time of so many bytes |
-/// | items of 16 bytes and more: `ROWS_LONG_ITEM`, more than 512 KiB: `ROWS_LONG_LIST` | none | the same |
-/// | a column of 512 bytes and more: `ROWS_LONG_COLUMN` | `Sixteen` | half as many parts of a cache line of the output are stored |
+/// | items of more than 16 bytes, in lists of more than 512 KiB: `FAR_LIST` | none | the same |
+/// | a column of 512 bytes and more: `LONG_COLUMN` | `Sixteen` | half as many parts of a cache line of the output are stored |
 /// | all others | `Eight` | the loop needs fewer registers |
 #[inline(always)]
 pub(crate) fn row_blocks_of(size: usize, width: usize, height: usize) -> Option<RowBlocks> {
     let column = height.wrapping_mul(size);
-    if size >= ROWS_LONG_ITEM && width.wrapping_mul(column) > ROWS_LONG_LIST {
+    if size > VECTOR && width.wrapping_mul(column) > FAR_LIST {
         None
-    } else if column >= ROWS_LONG_COLUMN {
+    } else if column >= LONG_COLUMN {
         Some(RowBlocks::Sixteen)
     } else {
         Some(RowBlocks::Eight)

@@ -6,7 +6,7 @@ pub(crate) use crate::kernels::bits::pow2;
 pub(crate) use crate::kernels::grid::{TILE, exchange_quadrants, exchange_region};
 pub(crate) use crate::kernels::places::bulk::{Ahead, Block, Blocked, Tiled};
 pub(crate) use crate::kernels::reverse::rows::{RowDigits, reverse_rows, reverse_short};
-pub(crate) use crate::kernels::transpose::order::{LARGE_MATRIX, Order, TINY_MATRIX};
+pub(crate) use crate::kernels::transpose::order::TINY_MATRIX;
 pub(crate) use crate::kernels::transpose::regions::Matrix;
 pub(crate) use crate::kernels::transpose::strips::{HIGH_ROWS, Strips, UNIT};
 pub(crate) use crate::kernels::transpose::ways::{

@@ -38,12 +38,10 @@ pub(super) use super::holders::USES_REGISTERS;
 
 /// From how many bytes on short lists are put by lines in tests that pass these limits.
 pub(super) const fn near() -> Limits {
-    let (list, long_list, row, column) = (1 << 10, 1 << 10, 1, 1);
     Limits {
-        list,
-        long_list,
-        row,
-        column,
+        list: 1 << 10,
+        long_list: 1 << 10,
+        side: 1,
     }
 }
 

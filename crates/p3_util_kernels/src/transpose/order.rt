@@ -15,13 +15,11 @@ use crate::transpose::ways::PutRegion;
 pub const TINY_MATRIX: usize = 256;
 
 /// The greatest number of items of a matrix that is not split.
-#[doc(hidden)]
-pub const LARGE_MATRIX: usize = 1_048_576;
+pub(crate) const LARGE_MATRIX: usize = 1_048_576;
 
 /// An order in which a matrix or a region of it is put. `S` is a way to put strips.
 #[derive(Clone, Copy)]
-#[doc(hidden)]
-pub enum Order<S> {
+pub(crate) enum Order<S> {
     /// Strip by strip.
     Strips(S),
     /// Leaf by leaf, as the region is split, and each leaf strip by strip.

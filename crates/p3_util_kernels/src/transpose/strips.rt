@@ -48,37 +48,24 @@ pub enum Strips<const SIDE: usize, const ROWS: usize> {
     Squares,
 }
 
-impl<const SIDE: usize, const ROWS: usize> Strips<SIDE, ROWS> {
-    /// The strips for a matrix of `width` columns, if it is put column after column.
-    ///
-    /// A strip is read column by column, so a cache line of each of its rows is in use at the same
-    /// time. If 16 divides the width, the distance of two rows may be a multiple of a high power of
-    /// two. The cache lines of a high strip then fall into few sets of the cache, and each line is
-    /// evicted before its next item is read. Those of 24 rows stay in the cache. With other widths,
-    /// the rows are spread over the sets of the cache. A high strip is better there, since it puts
-    /// longer runs of consecutive cells.
-    #[inline(always)]
-    #[doc(hidden)]
-    pub const fn by_width(width: usize) -> Self {
-        if width % UNIT == 0 {
-            Strips::Low
-        } else {
-            Strips::High
-        }
-    }
-}
-
 impl Strips<4, UNIT> {
     /// The strips for `matrix`, chosen by its shape alone. Every call in Rattle uses this choice.
     /// The plain Rust package knows the size of an item and may choose others.
     ///
-    /// If 16 divides the width, a small matrix is put in strips of at most 16 rows, by squares of 4 by 4
-    /// items, since it stays in the cache whatever the order is.
+    /// A strip is read column by column, so a cache line of each of its rows is in use at the same
+    /// time. If 16 divides the width, the distance of two rows may be a multiple of a high power of
+    /// two. The cache lines of a high strip then fall into few sets of the cache, and each line is
+    /// evicted before its next item is read. Those of 24 rows stay in the cache, and a small matrix,
+    /// which stays there in any order, is put by squares of 4 by 4 items. With other widths, the rows
+    /// are spread over the sets of the cache. A high strip is better there, since it puts longer runs
+    /// of consecutive cells.
     pub(crate) fn by_shape<R: Source + Copy>(matrix: Matrix<R>) -> Self {
-        if matrix.width % UNIT == 0 && matrix.source.len() <= SMALL_MATRIX {
+        if matrix.width % UNIT != 0 {
+            Strips::High
+        } else if matrix.source.len() <= SMALL_MATRIX {
             Strips::Squares
         } else {
-            Strips::by_width(matrix.width)
+            Strips::Low
         }
     }
 }
