@@ -9,7 +9,7 @@
 //! | a whole call, fewer than two rows or columns | as a copy | its items keep their order |
 //! | a whole call, one block: [`side_of`] | as this block | in registers |
 //! | a whole call, fewer than 256 items of less than 1 KiB, or 128 with blocks in registers: [`few_items_of`], [`LONG_BYTES`] | column after column, in code that is inlined without debug assertions | another call would take as long |
-//! | 16 MiB and more of items of 4, 8 or 16 bytes, or 32 MiB and more of items of 32, 48, .. 128 bytes, whose rows and columns in the matrix or part have 320 bytes and more: [`Limits`] | past the caches: short items by lines, the others in low strips | what is stored past the caches is not read first. Only whole lines are fast, and a column has at least 4 of them between the two parts of lines at its ends |
+//! | 32 MiB and more of items of 4, 8, 16, 32, 48, .. 128 bytes, whose rows and columns in the matrix or part have 320 bytes and more: [`Limits`] | past the caches: items of up to 16 bytes by lines, the others in low strips | what is stored past the caches is not read first. Only whole lines are fast, and a column has at least 4 of them between the two parts of lines at its ends |
 //! | all others | in strips, 512 columns at a time: [`SEVERAL_COLUMNS`] | the lines in which the cells of a strip end are still in the second-level cache when those of the next strip begin in them |
 //!
 //! | Items | Strips | Why |
@@ -57,8 +57,6 @@ const LONG_COLUMN: usize = 1 << 9;
 pub(crate) struct Limits {
     /// Those of the list.
     pub list: usize,
-    /// The same, if an item is longer than a vector register.
-    pub long_list: usize,
     /// Those in a row of the matrix or part, and those in a column.
     pub side: usize,
 }
@@ -68,14 +66,13 @@ impl Limits {
     #[inline(always)]
     pub(crate) const fn of_users() -> Limits {
         Limits {
-            list: 1 << 24,
-            long_list: 1 << 25,
+            list: 1 << 25,
             side: 320,
         }
     }
 
-    /// Whether a region of a matrix of items of `size` bytes is put past the caches. `at` is the address of the first cell of the
-    /// output. The list is in memory, so no product wraps.
+    /// Whether a region of a matrix of items of `size` bytes is put past the caches, if it [may be](has_lines). `at` is the address
+    /// of the first cell of the output. The list is in memory, so no product wraps.
     #[inline(always)]
     pub(crate) fn fit<R: Copy>(
         self,
@@ -85,13 +82,8 @@ impl Limits {
         at: usize,
     ) -> bool {
         let items = matrix.width.wrapping_mul(matrix.height);
-        let (unit, list) = match size {
-            4 | 8 | 16 => (size, self.list),
-            _ if is_streamed(size) => (VECTOR, self.long_list),
-            _ => return false,
-        };
-        items.wrapping_mul(size) >= list
-            && at % unit == 0
+        items.wrapping_mul(size) >= self.list
+            && at % size.clamp(1, VECTOR) == 0
             && region.cols().wrapping_mul(size) >= self.side
             && region.rows().wrapping_mul(size) >= self.side
     }
@@ -157,16 +149,10 @@ pub(crate) const fn few_items_of(side: usize) -> usize {
     }
 }
 
-/// Whether items of `size` bytes may be put past the caches. On aarch64, that was not tried.
+/// Whether items of `size` bytes may be put past the caches: those of 4 and 8 bytes, and of one to eight vector registers. On
+/// aarch64, that was not tried.
 #[inline(always)]
 pub(crate) const fn has_lines(size: usize, has_registers: bool, is_x86_64: bool) -> bool {
-    match size {
-        4 | 8 | 16 => has_registers && is_x86_64,
-        _ => has_registers && is_x86_64 && is_streamed(size),
-    }
-}
-
-/// Whether items of `size` bytes may be put past the caches one by one: those of two to eight vector registers.
-pub(crate) const fn is_streamed(size: usize) -> bool {
-    VECTOR < size && size <= STREAMED_ITEM && size % VECTOR == 0
+    let has_vectors = size % VECTOR == 0 && VECTOR <= size && size <= STREAMED_ITEM;
+    has_registers && is_x86_64 && (size == 4 || size == 8 || has_vectors)
 }

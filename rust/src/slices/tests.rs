@@ -40,7 +40,6 @@ pub(super) use super::holders::USES_REGISTERS;
 pub(super) const fn near() -> Limits {
     Limits {
         list: 1 << 10,
-        long_list: 1 << 10,
         side: 1,
     }
 }

@@ -132,10 +132,8 @@ fn moves_unwritten<const N: usize>() {
         (64, 130),
         (300, 180),
     ];
-    // Lists of 16 MiB, or of 32 MiB, are put past the caches.
-    let large = matches!(N, 4 | 8 | 16 | 32 | 64)
-        .then_some((1 << if N > 16 { 25 } else { 24 }) / N / 1024)
-        .map(|width| (width, 1024));
+    // Lists of 32 MiB are put past the caches.
+    let large = matches!(N, 4 | 8 | 16 | 32 | 64).then_some(((1 << 25) / N / 1024, 1024));
     for (width, height) in small.into_iter().chain(large) {
         with_unwritten::<N>(width * height, |input| {
             with_unwritten::<N>(width * height, |output| {

@@ -1,4 +1,4 @@
-//! Parts of transposes that are put by lines from 1 KiB on. For a user's parts that limit is 16 MiB.
+//! Parts of transposes that are put by lines from 1 KiB on. For a user's parts that limit is 32 MiB.
 
 use super::super::TransposePart;
 use crate::kernels::calls::Output;
