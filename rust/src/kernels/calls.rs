@@ -160,7 +160,7 @@ fn transpose_apart<M: Output, R: Ahead<Item = M::Item> + Copy>(
     put_region(cells, matrix, whole)
 }
 
-/// Puts a region of a matrix that is neither copied nor one block, and has many items or long ones.
+/// Puts a region of a matrix: past the caches, by blocks of several rows, or in strips.
 #[inline(always)]
 fn put_region<M: Output, R: Ahead<Item = M::Item> + Copy>(
     cells: M,
