@@ -38,10 +38,7 @@ pub(super) use super::holders::USES_REGISTERS;
 
 /// From how many bytes on short lists are put by lines in tests that pass these limits.
 pub(super) const fn near() -> Limits {
-    Limits {
-        list: 1 << 10,
-        side: 1,
-    }
+    Limits { list: 1 << 10, side: 1 }
 }
 
 /// The index in a matrix of `width` columns and `height` rows of the item that its transpose has at `place`.
