@@ -9,7 +9,7 @@
 //! | a whole call, fewer than two rows or columns | as a copy | its items keep their order |
 //! | a whole call, one block: [`side_of`] | as this block | in registers |
 //! | a whole call, fewer than 256 items of less than 1 KiB, or 128 with blocks in registers: [`few_items_of`], [`LONG_BYTES`] | column after column, in code that is inlined without debug assertions | another call would take as long |
-//! | 32 MiB and more of items of 4, 8, 16, 32, 48, .. 128 bytes, whose rows and columns in the matrix or part have 2 KiB and more: [`Limits`] | past the caches: items of up to 16 bytes by lines, the others in low strips | what is stored past the caches is not read first. Only whole lines are fast, and rows and columns that are shorter take less time by strips |
+//! | 32 MiB and more of items of 4, 8, 16, 32, 48, .. 128 bytes, whose rows and columns in the matrix or part have 2 KiB and more: [`Limits`] | past the caches: items of up to 16 bytes by lines, the others in low strips | what is stored past the caches is not read first. Only whole lines are fast. With shorter rows and columns, items of 32 bytes and more take less time by strips, and shorter items more |
 //! | all others | in strips, 512 columns at a time: [`SEVERAL_COLUMNS`] | the lines in which the cells of a strip end are still in the second-level cache when those of the next strip begin in them |
 //!
 //! | Items | Strips | Why |
