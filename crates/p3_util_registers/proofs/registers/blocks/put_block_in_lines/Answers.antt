@@ -10,3 +10,6 @@ put_by_lines-requires-clause-reads g c = λ r col hr hc.
       | inl first ↦ omega (arith, first, c.if-is_of_lines.ensures.inside refl r hr, c.SIDE-side.ensures, c.len-len.ensures)
       | inr within ↦ run_inside c.args.block _ g.D.Register.SIDE r col c.requires.fits.inside (grind (arith, c.if-is_of_lines.ensures.side refl, c.SIDE-side.ensures)) hr within
     ])
+
+pub put_by_lines-requires-clause-inside : goal.put_by_lines-requires-clause-inside
+put_by_lines-requires-clause-inside g c = rw c.requires.same (λ r h. omega (arith, c.if-is_of_lines.ensures.inside refl r h, c.SIDE-side.ensures, c.len-len.ensures))
