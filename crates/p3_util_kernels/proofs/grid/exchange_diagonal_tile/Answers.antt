@@ -100,9 +100,7 @@ loop-row-preserved g c =
     }
 
 pub returns-clause-exchanged : goal.returns-clause-exchanged
-returns-clause-exchanged g c =
-    let all : c.loop-row.row ≡ 8 = omega arith in
-    rw all at c.loop-row.invariant.exchanged
+returns-clause-exchanged g c = let all : c.loop-row.row ≡ 8 = omega arith in rw all at c.loop-row.invariant.exchanged
 
 pub returns-clause-holder : goal.returns-clause-holder
 returns-clause-holder g c =

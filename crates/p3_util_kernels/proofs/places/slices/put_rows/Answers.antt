@@ -38,6 +38,4 @@ loop-col-preserved g c =
     (c.put_column.ensures.put r (omega (arith, h, c.requires.count))))
 
 pub returns : goal.returns
-returns g c =
-    let end : c.loop-col.col ≡ c.args.block.cols = omega arith in
-    rw end at c.loop-col.invariant
+returns g c = let end : c.loop-col.col ≡ c.args.block.cols = omega arith in rw end at c.loop-col.invariant

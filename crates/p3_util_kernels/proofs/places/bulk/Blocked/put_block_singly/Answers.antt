@@ -38,6 +38,4 @@ loop-c-preserved g c =
     rw column c.loop-r.invariant
 
 pub returns-clause-put : goal.returns-clause-put
-returns-clause-put g c =
-    let end : c.loop-c.c ≡ c.args.block.cols = omega arith in
-    rw end at c.loop-c.invariant.put
+returns-clause-put g c = let end : c.loop-c.c ≡ c.args.block.cols = omega arith in rw end at c.loop-c.invariant.put
