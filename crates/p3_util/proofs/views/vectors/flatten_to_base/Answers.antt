@@ -1,6 +1,6 @@
 -- Each turn of the loop moves one more row. After the loop the items are those of all rows, in
 -- order.
-use Rattle.std.proofs.Common.{◌≡◌, ◌*◌, ap, arith, length, refl, rules, ◌∙◌}
+use Rattle.std.proofs.Common.{◌≡◌, ◌*◌, ap, arith, length, rules, ◌∙◌}
 use Rattle.std.proofs.Math.Nat.{mul-mod_left}
 use Rattle.std.proofs.lemmas.List.{take_all}
 use Rattle.p3_util.specs.Flat.{flat}
@@ -45,6 +45,3 @@ pub returns-clause-rows : goal.returns-clause-rows
 returns-clause-rows g c some =
     let rows = c.args.vec.items in
     c.loop-row.invariant.cut some ∙ take_all c.loop-row.row-index rows (omega (arith, c.loop-row-test.false, ap length c.deref_mut-row-items.ensures.value))
-
-pub returns-in_default-clause-given : goal.returns-in_default-clause-given
-returns-in_default-clause-given g c = refl

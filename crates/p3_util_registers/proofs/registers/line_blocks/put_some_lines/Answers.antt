@@ -34,7 +34,13 @@ put_line-requires g c =
 pub put_line-requires-then-side-eq2 : goal.put_line-requires-then-side-eq2
 put_line-requires-then-side-eq2 g c =
     let at : c.args.col + 1 < c.args.block.cols = grind (arith, c.requires.below, c.requires.some_side) in
-    record { some_side = grind (arith, c.requires.some_side); line = c.requires.lines; room = λ r h. omega (arith, c.requires.block.room r _ h at, c.put_line.ensures.stored.same_length); len_fits = omega (arith, c.requires.cells_len_fits, c.put_line.ensures.stored.same_length); reached = λ k h. rw c.put_line.ensures.reach (c.requires.writes _ k at h) }
+    record {
+      some_side = grind (arith, c.requires.some_side);
+      line = c.requires.lines;
+      room = λ r h. omega (arith, c.requires.block.room r _ h at, c.put_line.ensures.stored.same_length);
+      len_fits = omega (arith, c.requires.cells_len_fits, c.put_line.ensures.stored.same_length);
+      reached = λ k h. rw c.put_line.ensures.reach (c.requires.writes _ k at h);
+    }
 
 pub put_line-requires-2 : goal.put_line-requires-2
 put_line-requires-2 g c =
@@ -44,17 +50,35 @@ put_line-requires-2 g c =
 pub put_line-requires-3 : goal.put_line-requires-3
 put_line-requires-3 g c =
     let at : c.args.col + 1 < c.args.block.cols = grind (arith, c.requires.below, c.requires.some_side, c.SIDE-side.ensures, c.if-side-eq2.false) in
-    record { some_side = grind (arith, c.requires.some_side); line = c.requires.lines; room = λ r h. omega (arith, c.requires.block.room r _ h at, c.put_line-2.ensures.stored.same_length); len_fits = omega (arith, c.requires.cells_len_fits, c.put_line-2.ensures.stored.same_length); reached = λ k h. rw c.put_line-2.ensures.reach (c.requires.writes _ k at h) }
+    record {
+      some_side = grind (arith, c.requires.some_side);
+      line = c.requires.lines;
+      room = λ r h. omega (arith, c.requires.block.room r _ h at, c.put_line-2.ensures.stored.same_length);
+      len_fits = omega (arith, c.requires.cells_len_fits, c.put_line-2.ensures.stored.same_length);
+      reached = λ k h. rw c.put_line-2.ensures.reach (c.requires.writes _ k at h);
+    }
 
 pub put_line-requires-4 : goal.put_line-requires-4
 put_line-requires-4 g c =
     let at : c.args.col + 2 < c.args.block.cols = grind (arith, c.requires.below, c.requires.some_side, c.SIDE-side.ensures, c.if-side-eq2.false) in
-    record { some_side = grind (arith, c.requires.some_side); line = c.requires.lines; room = λ r h. omega (arith, c.requires.block.room r _ h at, c.put_line-2.ensures.stored.same_length, c.put_line-3.ensures.stored.same_length); len_fits = omega (arith, c.requires.cells_len_fits, c.put_line-2.ensures.stored.same_length, c.put_line-3.ensures.stored.same_length); reached = λ k h. rw (c.put_line-3.ensures.reach, c.put_line-2.ensures.reach) (c.requires.writes _ k at h) }
+    record {
+      some_side = grind (arith, c.requires.some_side);
+      line = c.requires.lines;
+      room = λ r h. omega (arith, c.requires.block.room r _ h at, c.put_line-2.ensures.stored.same_length, c.put_line-3.ensures.stored.same_length);
+      len_fits = omega (arith, c.requires.cells_len_fits, c.put_line-2.ensures.stored.same_length, c.put_line-3.ensures.stored.same_length);
+      reached = λ k h. rw (c.put_line-3.ensures.reach, c.put_line-2.ensures.reach) (c.requires.writes _ k at h);
+    }
 
 pub put_line-requires-5 : goal.put_line-requires-5
 put_line-requires-5 g c =
     let at : c.args.col + 3 < c.args.block.cols = grind (arith, c.requires.below, c.requires.some_side, c.SIDE-side.ensures, c.if-side-eq2.false) in
-    record { some_side = grind (arith, c.requires.some_side); line = c.requires.lines; room = λ r h. omega (arith, c.requires.block.room r _ h at, c.put_line-2.ensures.stored.same_length, c.put_line-3.ensures.stored.same_length, c.put_line-4.ensures.stored.same_length); len_fits = omega (arith, c.requires.cells_len_fits, c.put_line-2.ensures.stored.same_length, c.put_line-3.ensures.stored.same_length, c.put_line-4.ensures.stored.same_length); reached = λ k h. rw (c.put_line-4.ensures.reach, c.put_line-3.ensures.reach, c.put_line-2.ensures.reach) (c.requires.writes _ k at h) }
+    record {
+      some_side = grind (arith, c.requires.some_side);
+      line = c.requires.lines;
+      room = λ r h. omega (arith, c.requires.block.room r _ h at, c.put_line-2.ensures.stored.same_length, c.put_line-3.ensures.stored.same_length, c.put_line-4.ensures.stored.same_length);
+      len_fits = omega (arith, c.requires.cells_len_fits, c.put_line-2.ensures.stored.same_length, c.put_line-3.ensures.stored.same_length, c.put_line-4.ensures.stored.same_length);
+      reached = λ k h. rw (c.put_line-4.ensures.reach, c.put_line-3.ensures.reach, c.put_line-2.ensures.reach) (c.requires.writes _ k at h);
+    }
 
 pub returns-then-side-eq2-clause-put : goal.returns-then-side-eq2-clause-put
 returns-then-side-eq2-clause-put g c =
