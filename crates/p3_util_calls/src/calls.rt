@@ -13,8 +13,8 @@ use crate::choice::{
 };
 use crate::lines::Lines;
 use p3_util_kernels::kernel::{
-    Ahead, Blocked, Blocks, Columns, HIGH_ROWS, InCols, InRows, Matrix, PutColumn, PutRegion,
-    RowDigits, ShortColumns, Strips, Tiled, UNIT, put_as_block,
+    Ahead, Blocked, Blocks, Columns, InCols, InRows, Matrix, PutColumn, PutRegion, RowDigits,
+    ShortColumns, Tiled, UNIT, put_as_block,
 };
 use p3_util_kernels::places::{Cells, Source};
 use p3_util_kernels::transpose::Region;
@@ -67,10 +67,10 @@ pub(crate) trait Output: Blocked {
         ensures copied { Self.items result ≡ R.items source }
         ensures holder { Self.same_holder (length (Self.items self)) self result };
 
-    /// Puts a region in this way. The holder may store whole lines, or items of 32 bytes and more, past the caches until it returns.
-    fn put_past_caches<W: PutRegion, R: Ahead<Item = Self::Item> + Copy>(
+    /// Puts a region by these lines. The holder may store them past the caches until it returns.
+    fn put_past_caches<R: Ahead<Item = Self::Item> + Copy>(
         self,
-        way: W,
+        lines: Lines,
         matrix: Matrix<R>,
         region: Region,
     ) -> Self
@@ -81,7 +81,7 @@ pub(crate) trait Output: Blocked {
             (R.items matrix.source) (Self.items self) (Self.items result) }
         ensures holder { Self.same_holder (items_of region) self result }
     {
-        way.put(self, matrix, region)
+        lines.put(self, matrix, region)
     }
 }
 
@@ -200,7 +200,7 @@ fn transpose_apart<M: Output, R: Ahead<Item = M::Item> + Copy>(
     put_region(cells, matrix, whole)
 }
 
-/// Puts a region of a matrix: past the caches, by blocks of several rows, or in strips.
+/// Puts a region of a matrix: by lines, by blocks of several rows, or in strips.
 #[inline(always)]
 fn put_region<M: Output, R: Ahead<Item = M::Item> + Copy>(
     cells: M,
@@ -239,7 +239,7 @@ fn columns_at_a_time<S: PutRegion>(way: S) -> InCols<SEVERAL_COLUMNS, S, S> {
     InCols(way, way)
 }
 
-/// Puts a region past the caches: by cache lines of the output, or in low strips.
+/// Puts a region by cache lines of the output, past the caches.
 #[inline(never)]
 fn put_streamed<M: Output, R: Ahead<Item = M::Item> + Copy>(
     cells: M,
@@ -251,17 +251,9 @@ fn put_streamed<M: Output, R: Ahead<Item = M::Item> + Copy>(
         (R.items matrix.source) (M.items cells) (M.items result) }
     ensures holder { M.same_holder (items_of region) cells result }
 {
-    let size = M::SIZE;
-    match size {
-        4 | 8 | 16 => {
-            let lines = Lines::new(LINE / size, cells.address() % LINE / size);
-            cells.put_past_caches(lines, matrix, region)
-        }
-        _ => {
-            let strips = Strips::<1, HIGH_ROWS>::Low;
-            cells.put_past_caches(strips, matrix, region)
-        }
-    }
+    let size = M::SIZE.clamp(1, LINE);
+    let lines = Lines::new(LINE / size, cells.address() % LINE / size);
+    cells.put_past_caches(lines, matrix, region)
 }
 
 /// Puts a column of long items. A build without optimization has copies of an item on the stack in each function that the item

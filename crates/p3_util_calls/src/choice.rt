@@ -8,7 +8,7 @@
 //! | a whole call, fewer than two rows or columns | as a copy | its items keep their order |
 //! | a whole call, one block: [`side_of`] | as this block | in registers |
 //! | a whole call, fewer than 256 items of less than 1 KiB, or 128 with blocks in registers: [`few_items_of`], [`LONG_BYTES`] | column after column, in code that is inlined without debug assertions | another call would take as long |
-//! | 32 MiB and more of items of 4, 8, 16, 32, 48, .. 128 bytes, whose rows and columns in the matrix or part have 2 KiB and more: [`Limits`] | past the caches: items of up to 16 bytes by lines, the others in low strips | what is stored past the caches is not read first. Only whole lines are fast. With shorter rows and columns, items of 32 bytes and more take less time by strips, and shorter items more |
+//! | 32 MiB and more of items of 4, 8 or 16 bytes, whose rows and columns in the matrix or part have 320 bytes and more: [`Limits`] | by lines, past the caches | what is stored past the caches is not read first, but whole lines have to be stored. A part of a line, which a column may have at both of its ends, takes longer |
 //! | all others | in strips, 512 columns at a time: [`SEVERAL_COLUMNS`] | the lines in which the cells of a strip end are still in the second-level cache when those of the next strip begin in them |
 //!
 //! | Items | Strips | Why |
@@ -42,9 +42,6 @@ pub(crate) const SEVERAL_COLUMNS: usize = 512;
 /// The bytes of a vector register.
 const VECTOR: usize = 16;
 
-/// Longer items take no less time past the caches.
-const STREAMED_ITEM: usize = 128;
-
 /// A list of more bytes and its transpose do not fit together in a cache of 1 MiB, which is of the second level.
 const FAR_LIST: usize = 1 << 19;
 
@@ -66,7 +63,7 @@ impl Limits {
     pub(crate) const fn of_users() -> Limits {
         Limits {
             list: 1 << 25,
-            side: 1 << 11,
+            side: 320,
         }
     }
 
@@ -84,7 +81,7 @@ impl Limits {
     {
         let items = matrix.width.wrapping_mul(matrix.height);
         items.wrapping_mul(size) >= self.list
-            && at % size.clamp(1, VECTOR) == 0
+            && at % size.max(1) == 0
             && region.cols().wrapping_mul(size) >= self.side
             && region.rows().wrapping_mul(size) >= self.side
     }
@@ -150,10 +147,9 @@ pub(crate) const fn few_items_of(side: usize) -> usize {
     }
 }
 
-/// Whether items of `size` bytes may be put past the caches: those of 4 and 8 bytes, and of one to eight vector registers. On
-/// aarch64, that was not tried.
+/// Whether items of `size` bytes may be put past the caches. Those of 32 bytes and more take no less time there. On aarch64, that
+/// was not tried.
 #[inline(always)]
 pub(crate) const fn has_lines(size: usize, has_registers: bool, is_x86_64: bool) -> bool {
-    let has_vectors = size % VECTOR == 0 && VECTOR <= size && size <= STREAMED_ITEM;
-    has_registers && is_x86_64 && (size == 4 || size == 8 || has_vectors)
+    has_registers && is_x86_64 && (size == 4 || size == 8 || size == VECTOR)
 }

@@ -10,8 +10,8 @@ use crate::kernels::choice::{
 };
 use crate::kernels::lines::Lines;
 use crate::kernels::kernel::{
-    Ahead, Blocked, Blocks, Columns, HIGH_ROWS, InCols, InRows, Matrix, PutColumn, PutRegion,
-    RowDigits, ShortColumns, Strips, Tiled, UNIT, put_as_block,
+    Ahead, Blocked, Blocks, Columns, InCols, InRows, Matrix, PutColumn, PutRegion, RowDigits,
+    ShortColumns, Tiled, UNIT, put_as_block,
 };
 use crate::kernels::places::{Cells, Source};
 use crate::kernels::transpose::Region;
@@ -61,17 +61,17 @@ pub(crate) trait Output: Blocked {
     where
         Self: Sized,;
 
-    /// Puts a region in this way. The holder may store whole lines, or items of 32 bytes and more, past the caches until it returns.
-    fn put_past_caches<W: PutRegion, R: Ahead<Item = Self::Item> + Copy>(
+    /// Puts a region by these lines. The holder may store them past the caches until it returns.
+    fn put_past_caches<R: Ahead<Item = Self::Item> + Copy>(
         self,
-        way: W,
+        lines: Lines,
         matrix: Matrix<R>,
         region: Region,
     ) -> Self
     where
         Self: Sized,
     {
-        way.put(self, matrix, region)
+        lines.put(self, matrix, region)
     }
 }
 
@@ -160,7 +160,7 @@ fn transpose_apart<M: Output, R: Ahead<Item = M::Item> + Copy>(
     put_region(cells, matrix, whole)
 }
 
-/// Puts a region of a matrix: past the caches, by blocks of several rows, or in strips.
+/// Puts a region of a matrix: by lines, by blocks of several rows, or in strips.
 #[inline(always)]
 fn put_region<M: Output, R: Ahead<Item = M::Item> + Copy>(
     cells: M,
@@ -194,24 +194,16 @@ fn columns_at_a_time<S: PutRegion>(way: S) -> InCols<SEVERAL_COLUMNS, S, S> {
     InCols(way, way)
 }
 
-/// Puts a region past the caches: by cache lines of the output, or in low strips.
+/// Puts a region by cache lines of the output, past the caches.
 #[inline(never)]
 fn put_streamed<M: Output, R: Ahead<Item = M::Item> + Copy>(
     cells: M,
     matrix: Matrix<R>,
     region: Region,
 ) -> M {
-    let size = M::SIZE;
-    match size {
-        4 | 8 | 16 => {
-            let lines = Lines::new(LINE / size, cells.address() % LINE / size);
-            cells.put_past_caches(lines, matrix, region)
-        }
-        _ => {
-            let strips = Strips::<1, HIGH_ROWS>::Low;
-            cells.put_past_caches(strips, matrix, region)
-        }
-    }
+    let size = M::SIZE.clamp(1, LINE);
+    let lines = Lines::new(LINE / size, cells.address() % LINE / size);
+    cells.put_past_caches(lines, matrix, region)
 }
 
 /// Puts a column of long items. A build without optimization has copies of an item on the stack in each function that the item

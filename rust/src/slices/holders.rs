@@ -7,7 +7,7 @@
 
 use core::marker::PhantomData;
 use core::ptr;
-use core::slice::{from_raw_parts, from_ref};
+use core::slice::from_raw_parts;
 use core::sync::atomic::{Ordering, compiler_fence};
 
 pub(super) use self::SliceItems as WholeList;
@@ -18,6 +18,7 @@ pub(super) use registers::{Items, Vector};
 
 use crate::kernels::calls::{LINE, Output};
 use crate::kernels::kernel::{Ahead, Block, Blocked, Tiled};
+use crate::kernels::lines::Lines;
 use crate::kernels::parts::Shared;
 use crate::kernels::places::{Cells, Places, Source};
 use crate::kernels::registers::blocks::{
@@ -42,8 +43,8 @@ mod tests;
 /// Tiles and blocks of items are transposed in registers `D`, each of which is two rows of a square, if these have more than
 /// one item.
 ///
-/// If `PAST_CACHES` is true, whole cache lines and long items are stored past the caches. [`SliceItems::put_past_caches`] makes such a
-/// holder, and a fence follows.
+/// If `PAST_CACHES` is true, whole cache lines are stored past the caches. [`SliceItems::put_past_caches`] makes such a holder, and a
+/// fence follows.
 pub(super) struct SliceItems<'a, T, D = Two<()>, const PAST_CACHES: bool = false> {
     first: *mut T,
     len: usize,
@@ -138,13 +139,8 @@ impl<T: Copy, D: Register<T>> Output for SliceItems<'_, T, D> {
     }
 
     #[inline(always)]
-    fn put_past_caches<W: PutRegion, R: Ahead<Item = T> + Copy>(
-        self,
-        way: W,
-        matrix: Matrix<R>,
-        region: Region,
-    ) -> Self {
-        let cells = way.put(self.past_caches(), matrix, region);
+    fn put_past_caches<R: Ahead<Item = T> + Copy>(self, lines: Lines, matrix: Matrix<R>, region: Region) -> Self {
+        let cells = lines.put(self.past_caches(), matrix, region);
         cache::fence();
         SliceItems::of(cells.first, cells.len)
     }
@@ -252,21 +248,9 @@ impl<T: Copy, D: Register<T>, const PAST_CACHES: bool> Cells for SliceItems<'_, 
         self.len
     }
 
-    /// Past the caches, stores an item of two or more whole registers register by register, if it is aligned. A shorter one that is
-    /// put by itself is in no whole line.
     #[inline(always)]
     fn put(&mut self, i: usize, v: T) {
         debug_assert!(i < self.len);
-        if const { PAST_CACHES && size_of::<T>() >= 32 && size_of::<T>() % 16 == 0 } && self.first.addr() % 16 == 0 {
-            let item = SliceSource::new(from_ref(&v)).in_bytes::<16>();
-            let parts = item.items.len();
-            let mut cells = SliceItems::<Bytes<16>, Two<Vector>, true>::of(self.first.cast(), self.len * parts);
-            for part in 0..parts {
-                let run = Loads::<_, Two<Vector>>::load(&item, part);
-                Runs::<_, Two<Vector>>::stream(&mut cells, i * parts + part, run);
-            }
-            return;
-        }
         let cell = self.first.wrapping_add(i);
         // SAFETY: the cell is within the slice, by the `requires` of `Cells::put`.
         unsafe {
@@ -363,8 +347,8 @@ impl<T, E, D: Register<T>, const PAST_CACHES: bool> Runs<T, D> for SliceItems<'_
         }
         let to = self.first.wrapping_add(place);
         debug_assert!(place <= self.len && D::SIDE <= self.len - place && to.addr() % 16 == 0);
-        // SAFETY: a run is a register here. The holder `may_stream` it, by the `requires` of `Runs::stream`: the methods
-        // `may_stream_lines` and `put` test its address.
+        // SAFETY: a run is a register here. The holder `may_stream` it, by the `requires` of `Runs::stream`: `may_stream_lines` tests
+        // its address.
         unsafe {
             let run: Vector = core::mem::transmute_copy(&run);
             core::arch::asm!("movntdq [{}], {}", in(reg) to, in(xmm_reg) run, options(nostack, preserves_flags))

@@ -652,23 +652,6 @@ mod refused {
         }
     }
 
-    /// An item that is stored past the caches has to be inside the list, too.
-    #[cfg(all(not(feature = "checked"), not(miri)))]
-    #[test]
-    fn items_past_the_caches() {
-        let mut list = Aligned([[7_u32; 8]; 600]);
-        for place in 0..6 {
-            let put = || {
-                SliceItems::new(&mut list.0[..5])
-                    .past_caches()
-                    .put(place, [1, 2, 3, 4, 5, 6, 7, 8])
-            };
-            assert_eq!(panics(put), place == 5, "{place}");
-        }
-        assert_eq!(list.0[..5], [[1, 2, 3, 4, 5, 6, 7, 8]; 5]);
-        assert_eq!(list.0[5], [7; 8]);
-    }
-
     #[test]
     fn puts_and_reads() {
         for i in [3, usize::MAX] {

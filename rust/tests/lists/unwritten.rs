@@ -133,7 +133,7 @@ fn moves_unwritten<const N: usize>() {
         (300, 180),
     ];
     // Lists of 32 MiB are put past the caches.
-    let large = matches!(N, 4 | 8 | 16 | 32 | 64).then_some(((1 << 25) / N / 1024, 1024));
+    let large = matches!(N, 4 | 8 | 16).then_some(((1 << 25) / N / 1024, 1024));
     for (width, height) in small.into_iter().chain(large) {
         with_unwritten::<N>(width * height, |input| {
             with_unwritten::<N>(width * height, |output| {

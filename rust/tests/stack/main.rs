@@ -80,7 +80,7 @@ fn transposes_of_large_items() {
     check_transposes::<{ 1 << 16 }>(&[]);
 }
 
-/// The last of the lists of items of 4 to 128 bytes has 32 MiB, and is put past the caches.
+/// The last of the lists of items of 4, 8 and 16 bytes has 32 MiB, and is put past the caches.
 #[test]
 #[cfg_attr(target_family = "wasm", ignore = "no thread starts there")]
 fn transposes_of_small_items() {
@@ -90,9 +90,9 @@ fn transposes_of_small_items() {
     check_transposes::<4>(&[more.as_slice(), &[(8192, 1024)]].concat());
     check_transposes::<8>(&[more.as_slice(), &[(4096, 1024)]].concat());
     check_transposes::<16>(&[more.as_slice(), &[(2048, 1024)]].concat());
-    check_transposes::<32>(&[more.as_slice(), &[(1024, 1024)]].concat());
-    check_transposes::<64>(&[more.as_slice(), &[(1024, 512)]].concat());
-    check_transposes::<128>(&[more.as_slice(), &[(512, 512)]].concat());
+    check_transposes::<32>(&more);
+    check_transposes::<64>(&more);
+    check_transposes::<128>(&more);
 }
 
 mod reversals {

@@ -34,7 +34,7 @@ fn transposes<T: Copy + Debug + PartialEq + Send + Sync>(
     );
 }
 
-/// Every offset of both lists within a cache line, for items of 4, 8, 16 and 32 bytes, and columns that are whole lines or not.
+/// Every offset of both lists within a cache line, for items of 4, 8 and 16 bytes, and columns that are whole lines or not.
 #[test]
 fn all_offsets() {
     for (input, output) in (0..16).flat_map(|input| (0..16).map(move |output| (input, output))) {
@@ -43,9 +43,6 @@ fn all_offsets() {
         transposes([21, 37], [input, output], 2, |number| number as u32);
         transposes([21, 37], [input % 8, output % 8], 2, |number| number);
         transposes([21, 16 + input % 2], [input % 4, output % 4], 2, |number| [number, 7]);
-        transposes([21, 47 + input % 2], [input % 2, output % 2], 2, |number| {
-            [number, 7, 8, 9]
-        });
     }
 }
 
@@ -74,9 +71,8 @@ fn all_addresses() {
     macro_rules! after {
         ($($bytes:literal)*) => { $(
             transposes::<$bytes, 4>();
-            transposes::<$bytes, 32>();
-            transposes::<$bytes, 64>();
-            transposes::<$bytes, 128>();
+            transposes::<$bytes, 8>();
+            transposes::<$bytes, 16>();
         )* };
     }
     after!(0 1 2 3 4 5 6 7 8 12 15 16 17 20 31 32 33 47 48 60 61 62 63 64);
@@ -90,7 +86,6 @@ fn all_heights() {
             transposes([width, height], [2, 7], parts, |number| number);
             transposes([width, height], [0, 0], parts, |number| number as f64);
             transposes([width, height], [1, 3], parts, |number| [number, 7]);
-            transposes([width, height], [1, 3], parts, |number| [number, 7, 8, 9]);
         }
     }
 }

@@ -4,11 +4,12 @@ use super::super::TransposePart;
 use crate::kernels::calls::Output;
 use crate::kernels::choice::Limits;
 use crate::kernels::kernel::{Ahead, Block, Blocked};
+use crate::kernels::lines::Lines;
 use crate::kernels::part::transpose_part;
 use crate::kernels::places::Cells;
 #[cfg(not(feature = "checked"))]
 use crate::kernels::registers::{Pair, Two};
-use crate::kernels::transpose::{Matrix, PutRegion, Region};
+use crate::kernels::transpose::{Matrix, Region};
 use crate::slices::holders::SliceSource;
 #[cfg(not(feature = "checked"))]
 use crate::slices::holders::{Items, USES_REGISTERS, Vector};
@@ -54,13 +55,8 @@ impl<H: Output> Output for Near<H> {
         Near(self.0.copy(source))
     }
 
-    fn put_past_caches<W: PutRegion, R: Ahead<Item = H::Item> + Copy>(
-        self,
-        way: W,
-        matrix: Matrix<R>,
-        region: Region,
-    ) -> Self {
-        Near(self.0.put_past_caches(way, matrix, region))
+    fn put_past_caches<R: Ahead<Item = H::Item> + Copy>(self, lines: Lines, matrix: Matrix<R>, region: Region) -> Self {
+        Near(self.0.put_past_caches(lines, matrix, region))
     }
 }
 
