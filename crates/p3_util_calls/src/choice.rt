@@ -147,8 +147,8 @@ pub(crate) const fn few_items_of(side: usize) -> usize {
     }
 }
 
-/// Whether items of `size` bytes may be put past the caches. Those of 32 bytes and more take no less time there. On aarch64, that
-/// was not tried.
+/// Whether items of `size` bytes may be put past the caches. On one thread, those of 32 bytes and more take no less time there.
+/// On aarch64, that was not tried.
 #[inline(always)]
 pub(crate) const fn has_lines(size: usize, has_registers: bool, is_x86_64: bool) -> bool {
     has_registers && is_x86_64 && (size == 4 || size == 8 || size == VECTOR)
