@@ -1,10 +1,8 @@
--- The loop that fills one chunk: the items that came so far are at its front, and the rest of it is
--- still the filler.
-use Rattle.std.proofs.Common.{◌≡◌, ℕ, ◌+◌, ◌-◌, ◌<◌, ◌≤◌, Bool, true, false, true≢false, List, ◌++◌, Option, Some, None, length, take, drop, set, refl, sym, ap, ◌∙◌, arith}
+-- The loop that fills one chunk: the items that came so far are at its front, and the rest of it is still the filler.
+use Rattle.std.proofs.Common.{◌≡◌, ℕ, ◌+◌, ◌-◌, ◌<◌, ◌≤◌, Bool, true, false, true≢false, List, ◌++◌, Option, Some, None, length, take, drop, set, refl, sym, ap, ◌∙◌, replicate, ◌==◌, arith}
 use Rattle.std.proofs.lemmas.Grind.{take-set_at}
 use Rattle.std.proofs.lemmas.List.{length-take-le, length-set, drop-set-lt, drop-drop, drop-replicate, take-append-drop}
 use Rattle.std.proofs.iter.Next.{Yields-more}
-use Rattle.std.specs.Prelude.{replicate, ◌==◌}
 use Rattle.std.specs.Iterator.{Yields, Count, IsFinite, size, MakesProgress, count_map, count_unless}
 use Rattle.p3_util.specs.declared.chunks.ArrayChunksPadded.{ArrayChunksPadded}
 use Rattle.p3_util.specs.Pieces.{padded, piece_count}

@@ -1,7 +1,6 @@
 -- The loop of `fill`: items came one after another, and are at the front of a buffer.
-use Rattle.std.proofs.Common.{Option, Some, ◌≡◌, ℕ, ◌+◌, ◌<◌, ◌≤◌, List, length, take, set, refl, ◌∙◌, arith}
+use Rattle.std.proofs.Common.{Option, Some, ◌≡◌, ℕ, ◌+◌, ◌<◌, ◌≤◌, List, length, take, set, refl, ◌∙◌, length-set, arith}
 use Rattle.std.proofs.lemmas.Grind.{take-set_at}
-use Rattle.std.proofs.lemmas.List.{length-set}
 use Rattle.std.proofs.iter.Next.{Yields-more}
 use Rattle.std.specs.Iterator.{Yields, Count, IsFinite, size, MakesProgress}
 

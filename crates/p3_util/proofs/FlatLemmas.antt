@@ -1,7 +1,5 @@
 -- What a write or an exchange in the rows does to the list of all their items.
-use Rattle.std.proofs.Common.{ℕ, zero, suc, ◌≡◌, ◌+◌, ◌-◌, ◌*◌, ◌<◌, ◌≤◌, ◌≢◌, List, [], ◌∷◌, ◌++◌, length, get_or, set, take, drop, refl, sym, ap, ◌∙◌, arith, length-append, get_or-set_other, get_or-set_same, zero-add, add_assoc, ◌^◌, ◌/◌, ◌%◌, inl, inr, max, subst, Some, slice_get, nat_lt, cond, true, false}
-use Rattle.std.proofs.Math.Nat.{div-lt_iff_lt-mul, mul-le-mul_right}
-use Rattle.std.specs.List.{swap}
+use Rattle.std.proofs.Common.{ℕ, zero, suc, ◌≡◌, ◌+◌, ◌-◌, ◌*◌, ◌<◌, ◌≤◌, ◌≢◌, List, [], ◌∷◌, ◌++◌, length, get_or, set, take, drop, refl, sym, ap, ◌∙◌, length-append, get_or-set_other, get_or-set_same, zero-add, add_assoc, ◌^◌, ◌/◌, ◌%◌, inl, inr, max, subst, Some, slice_get, nat_lt, cond, true, false, div-lt_iff_lt-mul, mul-le-mul_right, swap, arith}
 use Rattle.std.proofs.Math.Seq.{take-set-lt}
 use Rattle.std.proofs.lemmas.List.{length-set, set-append_left, set-set, take-set, drop-set-add, drop-set-lt, take-append-drop, get_or-take, get_or_default, take_all, get_or-drop}
 use Rattle.std.proofs.lemmas.Option.{slice_get-get_or, slice_get_read}
@@ -231,7 +229,4 @@ module _ {A : Type 0} where
   pub IsFlat-width : (n : ℕ) (rows : List (List A)) → ((k : ℕ) → k < length rows → length (get_or rows k []) ≡ n) → IsFlat n rows (flat rows)
   IsFlat-width n rows width =
       let whole : length (flat rows) ≡ length rows * n = ap (λ l. length (flat l)) (sym (take_all (length rows) rows (omega arith))) ∙ starts n rows width (length rows) (omega arith) in
-      record {
-        len = whole;
-        places = λ i lt. place-of n rows width i (omega (arith, whole));
-      }
+      record { len = whole; places = λ i lt. place-of n rows width i (omega (arith, whole)) }

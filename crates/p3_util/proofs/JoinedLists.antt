@@ -1,8 +1,7 @@
 -- Two joined lists, and an exchange of an item of the first one with an item of the second one.
-use Rattle.std.proofs.Common.{ℕ, ◌≡◌, ◌+◌, ◌-◌, ◌<◌, List, ◌++◌, length, get_or, set, sym, ap, ◌∙◌, arith, length-append}
+use Rattle.std.proofs.Common.{ℕ, ◌≡◌, ◌+◌, ◌-◌, ◌<◌, List, ◌++◌, length, get_or, set, sym, ap, ◌∙◌, length-append, swap, arith}
 use Rattle.std.proofs.lemmas.List.{get_or_append_left, get_or-append-add, get_or_read, length-set, set-append_left, set-append_right}
 use Rattle.std.proofs.lemmas.List.Edits.{swap_is}
-use Rattle.std.specs.List.{swap}
 
 module _ {A : Type 0} where
   -- a write at a place after the end of the first list

@@ -1,7 +1,6 @@
 -- What the hand-written proofs about loans share: their types, a fact added to what is owned, and a
 -- loan that may exist, taken from a loan that does exist.
-use Rattle.std.proofs.Common.{ℕ, [], ◌∷◌, refl, Option, Some, None}
-use Rattle.std.specs.Option.{OnSome}
+use Rattle.std.proofs.Common.{ℕ, [], ◌∷◌, refl, Option, Some, None, OnSome}
 use seplogic.Ra.Ura.{Ura}
 use mathlib.Core.Option as maybe
 use mir.Syntax.{Args, a_type, a_number, ty_array}

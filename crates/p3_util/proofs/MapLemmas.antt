@@ -1,5 +1,5 @@
 -- The place that `position` finds, compared with the look-up and the write by key.
-use Rattle.std.proofs.Common.{◌≡◌, ℕ, zero, suc, ◌+◌, ◌<◌, ◌≤◌, Bool, true, false, not, cond, List, [], ◌∷◌, ◌++◌, Some, None, length, get_or, slice_set, refl, sym, ap, ◌∙◌, arith, is_some, position}
+use Rattle.std.proofs.Common.{◌≡◌, ℕ, zero, suc, ◌+◌, ◌<◌, ◌≤◌, Bool, true, false, not, cond, List, [], ◌∷◌, ◌++◌, Some, None, length, get_or, slice_set, refl, sym, ap, ◌∙◌, is_some, position, nat_lt, inl, ◌⊎◌, ltb-false, arith}
 use Rattle.std.specs.List.{IsDistinct, position_or_len}
 use Rattle.std.specs.Map.{lookup, set_value, keys_of}
 use Rattle.std.specs.Cmp.{IsEquivalence}
@@ -8,11 +8,9 @@ use Rattle.std.proofs.lemmas.List.{map-append, get_or_push}
 use Rattle.std.proofs.lemmas.Map.{keys-set_value}
 use Rattle.std.proofs.lemmas.Map.Keys.{IsDistinct-push}
 use Rattle.std.proofs.lemmas.Map.Made.{is_some-lookup}
-use Rattle.std.proofs.Common.{nat_lt, inl, ◌⊎◌}
 use Rattle.std.proofs.Math.Path.{fun_ext}
 use Rattle.std.proofs.iter.runs.Sources.{from_front}
 use Rattle.std.specs.Map.Iter.{TakesFirst, ShowsInOrder}
-use Rattle.std.proofs.lemmas.Bool.{ltb-false}
 use Rattle.p3_util.specs.LinearMap.{value_at, with_value, put, HasDistinctKeys}
 
 module _ {K V : Type 0} (test : K → Bool) where
@@ -44,8 +42,7 @@ set_last : {X : Type 0} (xs : List X) (x y : X) → slice_set (xs ++ x ∷ []) (
 set_last [] x y = refl
 set_last (z ∷ xs) x y = ap (λ t. z ∷ t) (set_last xs x y)
 
--- es' is es, and `added` is es' after (k, v) was pushed. The pair at n, the last place of `added`,
--- is lent.
+-- es' is es, and `added` is es' after (k, v) was pushed. The pair at n, the last place of `added`, is lent.
 module _ {K V : Type 0} (es es' added : List (K × V)) (k : K) (v : V) (n : ℕ) (pair : K × V) (kept : es' ≡ es) (pushed : added ≡ es' ++ (k, v) ∷ []) (place : n ≡ length es) (at : pair ≡ get_or added n pair) where
   pub pair_pushed : pair ≡ (k, v)
   pair_pushed = at ∙ rw (pushed, kept) (get_or_push es (k, v) pair n (sym place))
@@ -93,7 +90,6 @@ module _ {K V : Type 0} (eq : K → K → Bool) (es : List (K × V)) (k : K) whe
     distinct_new laws distinct =
         rw (map-append (λ (x : K × V). x.0) es ((k, v) ∷ [])) (IsDistinct-push laws (keys_of es) k distinct (sym (is_some-lookup (eq k) es) ∙ ap is_some (sym absent)))
 
--- an iterator that returns the first item of the remaining list at each step returns the list in
--- order
+-- an iterator that returns the first item of the remaining list at each step returns the list in order
 pub run_in_order : {A X : Type 0} (shows : A → X) → ShowsInOrder shows
 run_in_order shows = from_front (TakesFirst shows) shows (λ left. left) (λ _ _ ended. ap length ended.0) (λ _ _ _ gave. gave)

@@ -1,6 +1,5 @@
 -- If `wants_memory` is false, a value has only one answer.
-use Rattle.std.proofs.Common.{◌≡◌, ℕ, ◌<◌, List, take, Bool, IsTrue, Option, Some, None, Ok, Err, Result, refl, sym, ap, subst, ◌∙◌, arith, inl, inr, MatchOption}
-use Rattle.std.specs.Prelude.{slice_get, option_map}
+use Rattle.std.proofs.Common.{◌≡◌, ℕ, ◌<◌, List, take, Bool, IsTrue, Option, Some, None, Ok, Err, Result, refl, sym, ap, subst, ◌∙◌, inl, inr, MatchOption, slice_get, option_map, arith}
 use Rattle.std.proofs.lemmas.Bool.{cases_lt}
 use Rattle.serde_json.specs.Data.{Data}
 use Rattle.serde_json.specs.Find.{as_array}

@@ -1,9 +1,7 @@
 -- What a run of an iterator over padded pieces gives, derived from what each of its steps gives.
-use Rattle.std.proofs.Common.{◌≡◌, ℕ, zero, suc, ◌+◌, ◌-◌, ◌*◌, ◌<◌, ◌≤◌, ◌⊎◌, inl, inr, Bool, true, false, true≢false, List, [], ◌∷◌, ◌++◌, map, Option, None, length, refl, sym, ap, subst, ◌∙◌, arith, length-append, append_assoc, append-nil}
-use Rattle.std.specs.Prelude.{replicate, MatchBool, ◌==◌, if◌then◌else◌}
+use Rattle.std.proofs.Common.{◌≡◌, ℕ, zero, suc, ◌+◌, ◌-◌, ◌*◌, ◌<◌, ◌≤◌, ◌⊎◌, inl, inr, Bool, true, false, true≢false, List, [], ◌∷◌, ◌++◌, map, Option, None, length, refl, sym, ap, subst, ◌∙◌, length-append, append_assoc, append-nil, replicate, MatchBool, ◌==◌, if◌then◌else◌, flat_map, arith}
 use Rattle.std.specs.Iterator.{Yields, YieldsThen, DrainsIf}
 use Rattle.std.specs.Iterator.Runs.{Run, SomeRun, EachRunFrom}
-use Rattle.std.specs.List.{flat_map}
 use Rattle.std.proofs.iter.runs.Made.{run, took}
 use Rattle.std.proofs.lemmas.Bool.{cases_Bool}
 use Rattle.std.proofs.lemmas.List.{map-append, length-map}

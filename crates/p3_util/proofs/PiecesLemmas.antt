@@ -1,6 +1,6 @@
 -- What follows from `specs/Pieces.antt`: how many pieces there are, which piece is at which place,
 -- and what one more piece adds.
-use Rattle.std.proofs.Common.{◌≡◌, ℕ, zero, suc, get_or, slice_get, ◌+◌, ◌*◌, ◌/◌, ◌%◌, ◌<◌, ◌≤◌, List, [], ◌∷◌, ◌++◌, map, length, take, drop, refl, sym, ap, ap₂, ◌∙◌, subst, arith, rules, false, length-append, length-drop, append-nil}
+use Rattle.std.proofs.Common.{◌≡◌, ℕ, zero, suc, get_or, slice_get, ◌+◌, ◌*◌, ◌/◌, ◌%◌, ◌<◌, ◌≤◌, List, [], ◌∷◌, ◌++◌, map, length, take, drop, refl, sym, ap, ap₂, ◌∙◌, subst, rules, false, length-append, length-drop, append-nil, ◌==◌, arith}
 use borrow.Author.Tests.{tests}
 use Rattle.std.proofs.Math.Nat.{lt_of_mul-lt-mul_left, mul-le-mul_right}
 use Rattle.std.proofs.Math.Seq.{drop-append_seam}
@@ -9,7 +9,6 @@ use Rattle.std.proofs.lemmas.List.{take-append-le, drop-append-le, length-take-l
 use Rattle.std.proofs.lemmas.List.FromFn.{get_or-map-range_with_len, map-range_with_len_more, length-map-range_with_len}
 use Rattle.std.proofs.lemmas.Nat.{div-add-mod', mod_below}
 use Rattle.std.specs.Int.{div_ceil}
-use Rattle.std.specs.Prelude.{◌==◌}
 use Rattle.std.specs.List.{flat_map, range_with_len}
 use Rattle.p3_util.specs.Flat.{IsFlat, flat}
 use Rattle.p3_util.specs.Pieces.{piece_count, piece, pieces}
@@ -120,8 +119,7 @@ module _ {A : Type 0} where
         ap (λ l. flat_map f l) (pieces-more n k front back whole some fits)
         ∙ flat_map-append f (pieces n front) (back ∷ []) ∙ rw (joined-whole k front (omega arith) whole, append-nil (f back)) refl
 
-  -- a property of all lists that consist of whole pieces and a shorter rest is a property of all
-  -- lists
+  -- a property of all lists that consist of whole pieces and a shorter rest is a property of all lists
   pub in-pieces : (P : List A → Type 0) (n : ℕ) → 0 < n → ((k : ℕ) (front back : List A) → length front ≡ k * n → length back < n → P (front ++ back)) → (xs : List A) → P xs
   in-pieces P n some each xs =
       let k = length xs / n in

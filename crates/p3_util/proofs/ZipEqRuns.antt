@@ -1,8 +1,6 @@
 -- What a run of an iterator over pairs gives, and that the length it states is true.
-use Rattle.std.proofs.Common.{◌≡◌, ◌+◌, ◌⊎◌, inl, inr, Bool, true, false, true≢false, List, [], ◌∷◌, ◌++◌, map, Option, Some, None, length, refl, sym, ap, subst, ◌∙◌, arith}
+use Rattle.std.proofs.Common.{◌≡◌, ◌+◌, ◌⊎◌, inl, inr, Bool, true, false, true≢false, List, [], ◌∷◌, ◌++◌, map, Option, Some, None, length, refl, sym, ap, subst, ◌∙◌, zip, option_map, arith}
 use Rattle.std.specs.Iterator.{Yields, Count, size}
-use Rattle.std.specs.List.{zip}
-use Rattle.std.specs.Option.{option_map}
 use Rattle.std.proofs.iter.runs.Made.{run, took, at-is, run_of_turn}
 use Rattle.std.proofs.lemmas.Bool.{cases_Bool}
 use Rattle.std.proofs.lemmas.List.{length-map}
@@ -144,8 +142,7 @@ module _ {S T A B : Type 0} (steps : S → Option A → S → Type 0) (others : 
       ]
 
   module _ (left : S → Count) (others_left : T → Count) where
-    -- if both sides state true lengths, and the two are equal, the pairs end when the length that
-    -- they state is 0
+    -- if both sides state true lengths, and the two are equal, the pairs end when the length that they state is 0
     none-at : (ps : List (A × B)) (z t u : ZipEq S T) (o : Option A) (p : Option B) → HasTrueLength steps left (zip_eq_first z) → HasTrueLength others others_left (zip_eq_second z)
         → size (left (zip_eq_first z)) ≡ size (others_left (zip_eq_second z)) → Yields (zip_eq_steps steps others) z ps t → steps (zip_eq_first t) o (zip_eq_first u) → others (zip_eq_second t) p (zip_eq_second u)
         → (o ≡ None) ⊎ (p ≡ None) → size (zip_eq_left left t) ≡ 0

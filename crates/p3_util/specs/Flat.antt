@@ -11,8 +11,7 @@ flat rows = flat_map (λ row. row) rows
 abbrev pub countable_items : {A : Type 0} → List (List A) → List A
 countable_items rows = if nat_lt (length (flat rows)) (2 ^ 64) then flat rows else []
 
--- `items` has the items of the rows in order, for rows of n items each: item i is item `i % n` of
--- row `i / n`
+-- `items` has the items of the rows in order, for rows of n items each: item i is item `i % n` of row `i / n`
 pub record IsFlat {A : Type 0} (n : ℕ) (rows : List (List A)) (items : List A) : Type 0 where
   pub len : length items ≡ length rows * n
   pub places : (i : ℕ) → i < length items → slice_get items i ≡ slice_get (slice_index_or rows (i / n) []) (i % n)

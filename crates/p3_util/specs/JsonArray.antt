@@ -21,8 +21,7 @@ listed no_items = []
 listed (item d ds) = d ∷ listed ds
 
 module _ {T : Type 0} (wants_memory : Bool) where
-  -- the error has its cause in how one value was read. Out of memory occurs only for a type that
-  -- may need memory
+  -- the error has its cause in how one value was read. Out of memory occurs only for a type that may need memory
   abbrev pub IsCause : Result T Refusal → ElementError → Type 0
   IsCause r Kind = r ≡ Err wrong_kind
   IsCause r Range = r ≡ Err out_of_range
@@ -50,10 +49,9 @@ module _ {T : Type 0} (reading : Data → Result T Refusal) where
     IsListAnswer ds (Err (Length got)) = ((xs : List T) × AreReadAs (take n ds) xs) × (got ≡ length ds) × (got ≢ n)
     IsListAnswer ds (Ok xs) = AreReadAs ds xs × (length ds ≡ n)
 
-    -- r may be returned when the JSON value d is read as an array of n elements. It is the first of
-    -- these that applies: the error that d is not a list; the error that names the first item,
-    -- among the first n, that was not read, with its cause; the error for a wrong length; the
-    -- elements.
+    -- r may be returned when the JSON value d is read as an array of n elements. It is the first of these that applies:
+    -- the error that d is not a list; the error that names the first item, among the first n, that was not read, with
+    -- its cause; the error for a wrong length; the elements.
     abbrev pub IsArrayAnswer : Data → Result (List T) ArrayError → Type 0
     IsArrayAnswer d r = MatchOption (option_map listed (as_array d)) (r ≡ Err NotArray) (λ ds. IsListAnswer ds r)
 

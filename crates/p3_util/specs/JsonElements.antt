@@ -15,8 +15,7 @@ whole_number (string s) = Err wrong_kind
 whole_number (array ds) = Err wrong_kind
 whole_number (object ms) = Err wrong_kind
 
--- the integer as a value of the type, if the type has it. `has` is the type's function from
--- integers
+-- the integer as a value of the type, if the type has it. `has` is the type's function from integers
 abbrev pub in_type : {T : Type 0} → (ℤ → Option T) → Result ℤ Refusal → Result T Refusal
 in_type has (Ok z) = ok_or (has z) out_of_range
 in_type has (Err r) = Err r

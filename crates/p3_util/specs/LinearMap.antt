@@ -14,8 +14,7 @@ module _ {K V : Type 0} (eq : K → K → Bool) where
   abbrev pub value_at : List (K × V) → K → Option V
   value_at pairs k = lookup (eq k) pairs
 
-  -- the pairs after v has become the value of the pair whose key is equal to k. That pair keeps its
-  -- place and its key
+  -- the pairs after v has become the value of the pair whose key is equal to k. That pair keeps its place and its key
   abbrev pub with_value : List (K × V) → K → V → List (K × V)
   with_value pairs k v = set_value (eq k) pairs v
 

@@ -13,8 +13,7 @@ abbrev pub OwnsInOrder : {X : Type 0} → List X → IntoIter X Global → Type 
 OwnsInOrder {X} xs r =
     (into_iter_items r ≡ xs) × (into_iter_len r ≡ length xs) × (length xs < 2 ^ 64) × EveryRun (into_iter_steps {X = X} {Z = Global}) (λ run. ItemsAre run (into_iter_items run.from))
 
--- the items that the iterator r has left are those of xs, in order, and it yields references to
--- them
+-- the items that the iterator r has left are those of xs, in order, and it yields references to them
 abbrev pub LendsInOrder : {X : Type 0} → List X → Iter X → Type 0
 LendsInOrder {X} xs r =
     (iter_rest r ≡ xs) × (length (iter_rest r) < 2 ^ 64) × EveryRun (iter_steps {A = X}) (λ run. ItemsMapTo run (λ item. item.now) (iter_rest run.from))

@@ -1,14 +1,12 @@
 -- A list cut into pieces of n items. The last piece is shorter if n does not divide the length.
--- Source: the documentation and the tests of `apply_to_chunks` and `iter_array_chunks_padded` of
--- p3-util 0.8.0.
+-- Source: the documentation and the tests of `apply_to_chunks` and `iter_array_chunks_padded` of p3-util 0.8.0.
 use Rattle.std.specs.Prelude.{ℕ, zero, suc, ◌-◌, ◌*◌, List, ◌++◌, length, map, take, drop, replicate}
 use Rattle.std.specs.Borrow.{Bor}
 use Rattle.std.specs.Fn.{Mut, CalledAt}
 use Rattle.std.specs.Int.{div_ceil}
 use Rattle.std.specs.List.{range_with_len, FoldsTo}
 
--- the number of pieces of n items in a list of `items` items: the quotient, rounded up, and 0 if n
--- is 0
+-- the number of pieces of n items in a list of `items` items: the quotient, rounded up, and 0 if n is 0
 abbrev pub piece_count : (n items : ℕ) → ℕ
 piece_count zero items = 0
 piece_count (suc k) items = div_ceil items (suc k)

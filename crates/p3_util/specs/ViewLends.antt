@@ -13,9 +13,8 @@ module _ (S T : RattleType) (items : S.Denot → List T.Denot) (same_rows : S.De
   abbrev pub HasKept : S.Denot → Type 0
   HasKept last = same_rows rows.now last × (items last ≡ items rows.now)
 
-  -- S is the type of `rows`, T that of their items, and `items` gives all items as one list.
-  -- `same_rows` says that two values borrow the same rows. l is a `&mut` to item i of the rows, or
-  -- `None`. When the loan ends, item i has the value that was last written through l, and every
-  -- other item is unchanged. If l is `None`, all items are unchanged
+  -- S is the type of `rows`, T that of their items, and `items` gives all items as one list. `same_rows` says that two
+  -- values borrow the same rows. l is a `&mut` to item i of the rows, or `None`. When the loan ends, item i has the
+  -- value that was last written through l, and every other item is unchanged. If l is `None`, all items are unchanged
   abbrev pub lends_item : Fml
   lends_item = LendsSo S T rows l HasWritten HasKept

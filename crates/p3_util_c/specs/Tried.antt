@@ -10,13 +10,11 @@ use Rattle.p3_util_kernels.specs.Transpose.{IsTranspose}
 abbrev pub IsTried : (held : Bool) → (condition done unchanged : Type 0) → Type 0
 IsTried held condition done unchanged = (IsTrue held ↔ condition) × OnTrue held done × OnFalse held unchanged
 
--- `IsTried` for a reversal by index bits. The condition is that the length is zero or a power of
--- two
+-- `IsTried` for a reversal by index bits. The condition is that the length is zero or a power of two
 abbrev pub IsTriedReversal : {A : Type 0} → (held : Bool) → (old new : List A) → Type 0
 IsTriedReversal held old new = IsTried held (IsZeroOrPowerOfTwo (length old)) (IsReversal old new) (new ≡ old)
 
--- `IsTried` for a reversal of rows. The condition is that the length is the row width times zero or
--- a power of two
+-- `IsTried` for a reversal of rows. The condition is that the length is the row width times zero or a power of two
 abbrev pub IsTriedRowReversal : {A : Type 0} → (held : Bool) → (row_width : ℕ) → (old new : List A) → Type 0
 IsTriedRowReversal held row_width old new =
     IsTried held (FitsRows (length old) row_width) (IsRowReversal row_width old new) (new ≡ old)

@@ -1,6 +1,5 @@
 -- A region put in two parts, and a reversal by chunks and squares, with their numbers of steps.
-use Rattle.std.proofs.Common.{◌≡◌, ℕ, ◌+◌, ◌*◌, ◌^◌, ◌-◌, ◌/◌, ◌<◌, ◌≤◌, List, length, refl, arith}
-use Rattle.std.proofs.lemmas.Nat.{pow_pos}
+use Rattle.std.proofs.Common.{◌≡◌, ℕ, ◌+◌, ◌*◌, ◌^◌, ◌-◌, ◌/◌, ◌<◌, ◌≤◌, List, length, refl, pow_pos, arith}
 use Rattle.p3_util_kernels.specs.declared.transpose.regions.Region.{Region}
 use Rattle.p3_util_kernels.specs.Region.{IsRegionTransposed}
 use Rattle.p3_util_kernels.specs.Reversal.{IsReversal, IsRowReversal}
@@ -12,8 +11,7 @@ use Rattle.p3_util_kernels.proofs.TransposeLemmas.Region.{IsCut-cols, IsCut-rows
 use Rattle.p3_util_kernels.proofs.ReverseLemmas.SideBySide.{AreTransposed-more, square_room}
 
 module _ {A : Type 0} where
-  -- A region is put in two parts: the rows before `middle` and then the rows from `middle` on. The
-  -- same for columns.
+  -- A region is put in two parts: the rows before `middle` and then the rows from `middle` on. The same for columns.
   pub region_of_rows : (region : Region) (middle width height : ℕ) (input old mid new : List A)
       → region.row_start ≤ middle → middle ≤ region.row_end → region.row_end ≤ height
       → IsRegionTransposed (record region { row_end = middle }) width height input old mid

@@ -21,8 +21,7 @@ region_of_column region width height col input items old new same read places ot
   others = λ p out. others p (grind (arith, out col (p - col * height)));
 }
 
--- the items of the rows before `row` and of the rows from `row` on are those of all rows before
--- `end`
+-- the items of the rows before `row` and of the rows from `row` on are those of all rows before `end`
 pub rows_from_top : (row end cols : ℕ) → row ≤ end → row * cols + (end - row) * (cols - 0) ≡ end * cols
 rows_from_top row end cols order =
     let all : cols - 0 ≡ cols = omega arith in

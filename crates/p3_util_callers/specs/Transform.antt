@@ -9,15 +9,13 @@ pub record FitsTransform (m : Matrix ℕ) : Type 0 where
   pub levels : (k : ℕ) × (k ≤ MOST_STAGES) × (m.height ≡ 2 ^ k)
   pub below : EachIndex m.items (λ i. slice_index m.items i < PRIME)
 
--- row r of column c of `new` is the sum over the rows j of old[j, c] * root ^ (r * j), modulo the
--- prime
+-- row r of column c of `new` is the sum over the rows j of old[j, c] * root ^ (r * j), modulo the prime
 pub record IsTransformed (root width height : ℕ) (old new : List ℕ) : Type 0 where
   pub same_length : length new ≡ length old
   pub places : (r c : ℕ) → r < height → c < width
       → slice_index new (r * width + c) ≡ sum_below height (λ j. slice_index old (j * width + c) * root ^ (r * j)) % PRIME
 
--- the same with the inverse of the root, which is its power `2 ^ k - 1`, and multiplied by the
--- inverse of `2 ^ k`
+-- the same with the inverse of the root, which is its power `2 ^ k - 1`, and multiplied by the inverse of `2 ^ k`
 pub record IsInverseTransformed (k root width : ℕ) (old new : List ℕ) : Type 0 where
   pub same_length : length new ≡ length old
   pub places : (r c : ℕ) → r < 2 ^ k → c < width

@@ -36,8 +36,7 @@ module _ (len unit units part_len : ℕ) (some : 0 < unit) (most : 0 < units) (f
   step-some : 0 < part_len
   step-some = let positive : 1 * 1 ≤ units * unit = mul-le-mul most some in omega (arith, positive)
 
-  -- if `part_len` is a multiple of `unit` or at least the length, all parts begin at multiples of
-  -- `unit`
+  -- if `part_len` is a multiple of `unit` or at least the length, all parts begin at multiples of `unit`
   pub start-aligned : (k : ℕ) → k < parts_in len part_len → start_of len part_len k % unit ≡ 0
   start-aligned k below =
       let inside : k * part_len < len = start-below len part_len step-some k below in

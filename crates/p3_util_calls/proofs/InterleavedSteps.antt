@@ -1,6 +1,5 @@
 -- Steps of several lists that are interleaved, where no two lists have a place in common.
-use Rattle.std.proofs.Common.{◌≡◌, ◌≢◌, ℕ, ◌⊎◌, ◌<◌, List, [], ◌∷◌, Some, get_or, length, slice_get, slice_set, inl, inr, refl, sym, ◌∙◌, ap, arith}
-use Rattle.std.specs.Prelude.{swap}
+use Rattle.std.proofs.Common.{◌≡◌, ◌≢◌, ℕ, ◌⊎◌, ◌<◌, List, [], ◌∷◌, Some, get_or, length, slice_get, slice_set, inl, inr, refl, sym, ◌∙◌, ap, swap, arith}
 use Rattle.std.proofs.lemmas.Bool.{cases_eq, cases_lt}
 use Rattle.std.proofs.lemmas.List.{get_or-set_other, get_or-set_same, get_or_past, length-set}
 use Rattle.std.proofs.lemmas.List.Edits.{length-swap}
@@ -11,9 +10,8 @@ use Rattle.p3_util_calls.specs.PlacesOfParts.{NoPlaceInCommon}
 use Rattle.p3_util_kernels.proofs.PlacesLemmas.Exchange.{slice_get-set_other, slice_get-set_same, slice_get-swap_first, slice_get-swap_other, slice_get-swap_second}
 use Rattle.p3_util_kernels.proofs.PlacesLemmas.WrittenPlaces.{AreOnceAmong-cons, AreOnceAmong-nil, AreOnceAmong-split, AreOnceAmong-weaker}
 
--- What writes and exchanges have in common: a step has some places, changes no other place, and
--- what it leaves at its places depends only on what was at them. `once` says that it names no place
--- twice.
+-- What writes and exchanges have in common: a step has some places, changes no other place, and what it leaves at its
+-- places depends only on what was at them. `once` says that it names no place twice.
 pub record AreSteps {A S : Type 0} (after : List A → List S → List A) (places : List S → List ℕ) : Type 1 where
   pub one : List A → S → List A
   pub at : S → ℕ → Type 0

@@ -6,8 +6,7 @@ use Rattle.p3_util_kernels.specs.Least.{AllDiffer, AreOnceAmong, after_swaps, co
 use Rattle.p3_util_kernels.proofs.LawsLemmas.Counts.{count-twice}
 use Rattle.p3_util_kernels.proofs.PlacesLemmas.WrittenPlaces.{AreOnceAmong-weaker, Changed, swaps-places, swaps-written, written-at}
 
--- whenever n exchanges turn `old` into `new`, their places all differ, change, and have the property
--- `among`
+-- whenever n exchanges turn `old` into `new`, their places all differ, change, and have the property `among`
 abbrev pub SwapsStay : {A : Type 0} → (ℕ → Type 0) → ℕ → List A → List A → Type 0
 SwapsStay among n old new =
     (steps : List (ℕ × ℕ)) → length steps ≡ n → after_swaps old steps ≡ new

@@ -1,5 +1,4 @@
--- The places of the parts of a call: no two parts have a place in common, and each place belongs to
--- some part.
+-- The places of the parts of a call: no two parts have a place in common, and each place belongs to some part.
 use Rattle.std.proofs.Common.{◌≡◌, ℕ, Bool, true, false, if◌then◌else◌, ◌+◌, ◌-◌, ◌*◌, ◌/◌, ◌%◌, ◌^◌, ◌<◌, ◌≤◌, List, ap, arith, ◌∙◌}
 use Rattle.std.proofs.lemmas.Nat.{mul-add-lt, pow-add, same_from_place}
 use Rattle.p3_util_kernels.specs.declared.transpose.regions.Region.{Region}

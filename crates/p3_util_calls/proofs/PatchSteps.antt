@@ -1,5 +1,4 @@
--- The places of a patch that are exchanged with their mirror images, and the exchanges at these
--- places.
+-- The places of a patch that are exchanged with their mirror images, and the exchanges at these places.
 use Rattle.std.proofs.Common.{◌≡◌, ◌≢◌, ℕ, Bool, true, nat_lt, ltb-true, ◌*◌, ◌/◌, ◌%◌, ◌^◌, ◌<◌, IsTrue, List, length, slice_get, max, min, inl, inr, refl, ap, arith}
 use Rattle.std.proofs.lemmas.Bool.{cases_eq, eq-eqb, ne_eqb}
 use Rattle.std.proofs.lemmas.Bool.Decides.{nat_tests}

@@ -5,9 +5,8 @@ use Rattle.std.specs.Prelude.{ℕ, Bool, ◌≡◌, ◌+◌, ◌-◌, ◌*◌, �
 use Rattle.std.specs.Int.{div_ceil}
 use Rattle.p3_util_kernels.specs.declared.transpose.regions.Region.{Region}
 
--- The numbers below `len` are cut into `count` parts. Part k has the numbers from `start k` up to,
--- but not including, `start (k + 1)`. The first part begins at 0, the last one ends at `len`, and
--- none is empty.
+-- The numbers below `len` are cut into `count` parts. Part k has the numbers from `start k` up to, but not including,
+-- `start (k + 1)`. The first part begins at 0, the last one ends at `len`, and none is empty.
 pub record FollowEachOther (count len : ℕ) (start : ℕ → ℕ) : Type 0 where
   pub first : start 0 ≡ 0
   pub last : start count ≡ len
@@ -37,15 +36,13 @@ part_of_matrix width height by_rows len part_len k =
     if by_rows then record { row_start = start_of len part_len k; row_end = start_of len part_len (k + 1); col_start = 0; col_end = width }
     else record { row_start = 0; row_end = height; col_start = start_of len part_len k; col_end = start_of len part_len (k + 1) }
 
--- the number of pairs of n parts, if each part makes a pair with itself and with each later part:
--- `n * (n + 1) / 2`
+-- the number of pairs of n parts, if each part makes a pair with itself and with each later part: `n * (n + 1) / 2`
 abbrev pub pairs_of : ℕ → ℕ
 pairs_of n = n * (n + 1) / 2
 
--- The number of the pair of parts i and j of n parts, for i ≤ j. Let the parts be numbered in a
--- circle, so that part 0 follows part n - 1. If part j is s steps after part i, part i is n - s steps
--- after part j. The pair is called (i, s) if 2 s ≤ n, and (j, n - s) otherwise. The number of the pair
--- (p, s) is s n + p less than that of the last pair. So the pairs of a part with itself, which are
--- called (p, 0), have the greatest numbers.
+-- The number of the pair of parts i and j of n parts, for i ≤ j. Let the parts be numbered in a circle, so that part 0
+-- follows part n - 1. If part j is s steps after part i, part i is n - s steps after part j. The pair is called (i, s)
+-- if 2 s ≤ n, and (j, n - s) otherwise. The number of the pair (p, s) is s n + p less than that of the last pair. So
+-- the pairs of a part with itself, which are called (p, 0), have the greatest numbers.
 abbrev pub number_of_pair : (n i j : ℕ) → ℕ
 number_of_pair n i j = pairs_of n - 1 - (if nat_le (2 * (j - i)) n then (j - i) * n + i else (n - (j - i)) * n + j)

@@ -16,10 +16,9 @@ use Rattle.p3_util_kernels.specs.SwapCounts.{square_swaps}
 abbrev pub patches_of : (digits part_len : ℕ) → ℕ
 patches_of digits part_len = pairs_of (parts_in (2 ^ (digits / 2)) part_len) * 2 ^ (digits % 2)
 
--- Of the patches that `patches_of` counts, the one with this number is `region` in the grid of the
--- rows whose indices have the middle part `middle`. The rows of the patch are one part of the grid's
--- rows, and its columns are the same part of the columns or a later one. Patches of the same rows and
--- columns have consecutive numbers.
+-- Of the patches that `patches_of` counts, the one with this number is `region` in the grid of the rows whose indices
+-- have the middle part `middle`. The rows of the patch are one part of the grid's rows, and its columns are the same
+-- part of the columns or a later one. Patches of the same rows and columns have consecutive numbers.
 pub record IsPatch (digits part_len number middle : ℕ) (region : Region) : Type 0 where
   pub row : ℕ
   pub col : ℕ

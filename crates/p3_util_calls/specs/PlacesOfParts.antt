@@ -1,5 +1,4 @@
--- The places of the parts of a call. These definitions serve private contracts: those of
--- `src/laws.rt`.
+-- The places of the parts of a call. These definitions serve private contracts: those of `src/laws.rt`.
 -- Source: new.
 use Rattle.std.specs.Prelude.{◌≡◌, ◌≢◌, ℕ, ◌+◌, ◌-◌, ◌*◌, ◌/◌, ◌<◌, min, max, List, length, slice_get}
 use Rattle.p3_util_calls.specs.declared.parts.reversal.ReversalPlan.{ReversalPlan}
@@ -21,15 +20,13 @@ NoItemInCommon xs ys = (i j : ℕ) → i < length xs → j < length ys → slice
 abbrev pub IsPlaceOfRegion : (region : Region) (height p : ℕ) → Type 0
 IsPlaceOfRegion region height p = (x y : ℕ) × IsInRegion region x y × (p ≡ x * height + y)
 
--- row a and column b of the grid of `middle` lie in the patch with this number or in its mirror
--- image
+-- row a and column b of the grid of `middle` lie in the patch with this number or in its mirror image
 abbrev pub IsInPatch : (digits part_len number middle a b : ℕ) → Type 0
 IsInPatch digits part_len number middle a b =
     (region : Region) × IsPatch digits part_len number middle region × IsInRegion region (max a b) (min a b)
 
--- p is a place of part `number` of the plan. The part that is the whole call has all places. A patch
--- has the places in the rows that it exchanges. A row that stays where it is counts as a pair with
--- itself
+-- p is a place of part `number` of the plan. The part that is the whole call has all places. A patch has the places in
+-- the rows that it exchanges. A row that stays where it is counts as a pair with itself
 abbrev pub IsPlaceOfPart : (plan : ReversalPlan) (number p : ℕ) → Type 0
 IsPlaceOfPart (Whole items width) number p = (number ≡ 0) × (p < items)
 IsPlaceOfPart (Patches pairs) number p =

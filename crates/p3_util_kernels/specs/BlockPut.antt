@@ -15,9 +15,8 @@ pub record BlockFits (block : Block) (input_len output_len : ℕ) : Type 0 where
   pub room : (r c : ℕ) → r < block.rows → c < block.cols → block.to + c * block.height + r < output_len
   pub apart : block.rows ≤ block.height
 
--- The first n items of the block, counted column after column, are put: the item in row r and column
--- c of the block is at cell `to + c * height + r` of `new`. Every other cell holds what it held
--- before.
+-- The first n items of the block, counted column after column, are put: the item in row r and column c of the block is
+-- at cell `to + c * height + r` of `new`. Every other cell holds what it held before.
 pub record IsBlockPut {A : Type 0} (n : ℕ) (block : Block) (input old new : List A) : Type 0 where
   pub same_length : length new ≡ length old
   pub places : (r c : ℕ) → r < block.rows → block.rows * c + r < n → slice_get new (block.to + c * block.height + r) ≡ slice_get input (block.from + r * block.width + c)

@@ -2,9 +2,8 @@
 -- only the private contracts of the transposes.
 use Rattle.std.specs.Prelude.{ℕ, ◌≡◌, ◌+◌, ◌*◌, ◌^◌, ◌<◌, ◌≤◌, ◌⊎◌, List, length, slice_get}
 
--- The column is the `rows` items of `input` that begin at place `from` and are `width` places
--- apart. `input` has all of them, and `out` has as many cells from `to` on. Both lengths fit a
--- usize.
+-- The column is the `rows` items of `input` that begin at place `from` and are `width` places apart. `input` has all of
+-- them, and `out` has as many cells from `to` on. Both lengths fit a usize.
 pub record HoldsColumn {A : Type 0} (rows from width to : ℕ) (input out : List A) : Type 0 where
   pub inside : (t : ℕ) → t < rows → from + t * width < length input
   pub room : to + rows ≤ length out

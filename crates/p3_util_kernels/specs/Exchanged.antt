@@ -21,9 +21,8 @@ pub record AreTiles (x y : List ℕ) (len : ℕ) : Type 0 where
   pub second_apart : (a b : ℕ) → a < b → b < 8 → (slice_index y a + 8 ≤ slice_index y b) ⊎ (slice_index y b + 8 ≤ slice_index y a)
   pub both_apart : (a b : ℕ) → a < 8 → b < 8 → (slice_index x a + 8 ≤ slice_index y b) ⊎ (slice_index y b + 8 ≤ slice_index x a)
 
--- The first n items of the tile at `x`, counted row after row, are exchanged with their mirror
--- images in the tile at `y`: row r and column c of one tile with row c and column r of the other.
--- All other items stay where they are.
+-- The first n items of the tile at `x`, counted row after row, are exchanged with their mirror images in the tile at
+-- `y`: row r and column c of one tile with row c and column r of the other. All other items stay where they are.
 pub record TilesExchanged {A : Type 0} (n : ℕ) (x y : List ℕ) (old new : List A) : Type 0 where
   pub same_length : length new ≡ length old
   pub first : (r c : ℕ) → c < 8 → 8 * r + c < n → slice_get new (slice_index x r + c) ≡ slice_get old (slice_index y c + r)
@@ -36,9 +35,8 @@ pub record IsTile (x : List ℕ) (len : ℕ) : Type 0 where
   pub inside : (r : ℕ) → r < 8 → slice_index x r + 8 ≤ len
   pub apart : (a b : ℕ) → a < b → b < 8 → (slice_index x a + 8 ≤ slice_index x b) ⊎ (slice_index x b + 8 ≤ slice_index x a)
 
--- The tile at `x` is transposed as far as its first n items, counted row after row: if one of the two
--- items in row r and column c and in row c and column r is among the first n, they are exchanged. All
--- other items stay where they are.
+-- The tile at `x` is transposed as far as its first n items, counted row after row: if one of the two items in row r
+-- and column c and in row c and column r is among the first n, they are exchanged. All other items stay where they are.
 pub record TileTurned {A : Type 0} (n : ℕ) (x : List ℕ) (old new : List A) : Type 0 where
   pub same_length : length new ≡ length old
   pub turned : (r c : ℕ) → r < 8 → c < 8 → 8 * min r c + max r c < n → slice_get new (slice_index x r + c) ≡ slice_get old (slice_index x c + r)

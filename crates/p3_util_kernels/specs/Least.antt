@@ -1,5 +1,4 @@
--- Lists of exchanges and of writes, and the least number of steps in which a list can be
--- rearranged.
+-- Lists of exchanges and of writes, and the least number of steps in which a list can be rearranged.
 -- Source: new.
 use Rattle.std.specs.Prelude.{ℕ, Bool, ◌==◌, ◌≡◌, ◌≢◌, ◌↔◌, ◌+◌, ◌-◌, ◌*◌, ◌/◌, ◌^◌, ◌<◌, ◌≤◌, IsTrue, if◌then◌else◌, List, [], ◌∷◌, All, AllPairs, length, slice_get, slice_set, swap}
 use Rattle.p3_util_kernels.specs.Digits.{rev}
@@ -20,8 +19,7 @@ unfoldable pub after_puts : {A : Type 0} → List A → List (ℕ × A) → List
 after_puts xs [] = xs
 after_puts xs (put ∷ steps) = after_puts (slice_set xs put.0 put.1) steps
 
--- some n steps turn the list `old` into `new`, where `after xs steps` is the list xs after the
--- steps
+-- some n steps turn the list `old` into `new`, where `after xs steps` is the list xs after the steps
 abbrev pub StepsLead : {A S : Type 0} → (List A → List S → List A) → ℕ → List A → List A → Type 0
 StepsLead {A} {S} after n old new = (steps : List S) × (length steps ≡ n) × (after old steps ≡ new)
 
@@ -95,22 +93,19 @@ abbrev pub LeastSquare : Type 0 → Type 0
 LeastSquare A = (side : ℕ) (xs : List A) (steps : List (ℕ × ℕ)) → length xs ≡ side * side → AllDiffer xs
     → IsTranspose side side xs (after_swaps xs steps) → square_swaps side ≤ length steps
 
--- for items of the type A: if a list of writes changes the items at n different places, it has at
--- least n writes
+-- for items of the type A: if a list of writes changes the items at n different places, it has at least n writes
 abbrev pub LeastPuts : Type 0 → Type 0
 LeastPuts A = (n : ℕ) (place : ℕ → ℕ) (xs : List A) (steps : List (ℕ × A)) → AreApart n place
     → ((i : ℕ) → i < n → slice_get xs (place i) ≢ slice_get (after_puts xs steps) (place i)) → n ≤ length steps
 
--- for items of the type A: if the items of a list of `2 ^ k` items are all different, it differs
--- from its reversal at `2 * short_swaps k` places, two for each exchange of the shortest list of
--- exchanges that reverses it
+-- for items of the type A: if the items of a list of `2 ^ k` items are all different, it differs from its reversal at
+-- `2 * short_swaps k` places, two for each exchange of the shortest list of exchanges that reverses it
 abbrev pub ReversalDiffers : Type 0 → Type 0
 ReversalDiffers A = (k : ℕ) (old new : List A) → length old ≡ 2 ^ k → AllDiffer old
     → IsReversal old new → DifferAt (2 ^ k) (2 * short_swaps k) old new
 
--- for items of the type A: if the items of a square of `side` rows are all different, it differs
--- from its transpose at `side * (side - 1)` places. These are all places except those on the
--- diagonal
+-- for items of the type A: if the items of a square of `side` rows are all different, it differs from its transpose at
+-- `side * (side - 1)` places. These are all places except those on the diagonal
 abbrev pub SquareDiffers : Type 0 → Type 0
 SquareDiffers A = (side : ℕ) (old new : List A) → length old ≡ side * side → AllDiffer old
     → IsTranspose side side old new → DifferAt (side * side) (side * (side - 1)) old new

@@ -3,9 +3,8 @@
 use Rattle.std.specs.Prelude.{ℕ, ◌+◌, ◌-◌, ◌&&◌, nat_lt, if◌then◌else◌}
 use Rattle.p3_util_kernels.specs.Logarithms.{clog}
 
--- how often a region of r rows and c columns can be halved at its longer side until both sides are
--- at most 128, which is 2 ^ 7: `(clog r - 7) + (clog c - 7)`, where a negative difference counts as
--- 0
+-- how often a region of r rows and c columns can be halved at its longer side until both sides are at most 128, which
+-- is 2 ^ 7: `(clog r - 7) + (clog c - 7)`, where a negative difference counts as 0
 abbrev pub lev : (r c : ℕ) → ℕ
 lev r c = (clog r - 7) + (clog c - 7)
 

@@ -17,8 +17,7 @@ unfoldable pub name_pieces : List ℕ → List (List ℕ)
 name_pieces [] = [] ∷ []
 name_pieces (b ∷ t) = if is_mark b then (b ∷ []) ∷ name_pieces t else in_front b (name_pieces t)
 
--- the part after the last `::` of the text, or `whole` if there is none. The search for `::` goes
--- from left to right
+-- the part after the last `::` of the text, or `whole` if there is none. The search for `::` goes from left to right
 unfoldable pub after_colons : (whole text : List ℕ) → List ℕ
 after_colons whole [] = whole
 after_colons whole (b ∷ []) = whole

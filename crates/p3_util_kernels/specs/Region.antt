@@ -1,5 +1,4 @@
--- A region of a matrix, transposed into an output that has room for the transpose of the whole
--- matrix.
+-- A region of a matrix, transposed into an output that has room for the transpose of the whole matrix.
 -- Source: new.
 use Rattle.std.specs.Prelude.{ℕ, ◌≡◌, ◌≢◌, ◌+◌, ◌-◌, ◌*◌, ◌^◌, ◌<◌, ◌≤◌, List, length, slice_get}
 use Rattle.p3_util_kernels.specs.declared.transpose.regions.Region.{Region}
@@ -11,8 +10,7 @@ pub record IsInRegion (region : Region) (x y : ℕ) : Type 0 where
   pub col_from : region.col_start ≤ x
   pub col_to : x < region.col_end
 
--- The region lies in a matrix of `height` rows of `width` items. Neither its rows nor its columns
--- end before they begin
+-- The region lies in a matrix of `height` rows of `width` items. Neither its rows nor its columns end before they begin
 pub record LiesInMatrix (region : Region) (width height : ℕ) : Type 0 where
   pub rows_in_order : region.row_start ≤ region.row_end
   pub rows_inside : region.row_end ≤ height

@@ -9,9 +9,8 @@ use Rattle.p3_util_kernels.specs.Digits.{rev}
 abbrev pub IsZeroOrPowerOfTwo : ℕ → Type 0
 IsZeroOrPowerOfTwo n = (n ≡ 0) ⊎ IsPowerOfTwo n
 
--- `IsZeroOrPowerOfTwo n`, which may be shown in one of three ways: by itself; by a call of std's
--- `is_power_of_two` that returned true; or, if n is a literal, by a test that the checker evaluates.
--- The last two ways spare callers a proof.
+-- `IsZeroOrPowerOfTwo n`, which may be shown in one of three ways: by itself; by a call of std's `is_power_of_two` that
+-- returned true; or, if n is a literal, by a test that the checker evaluates. The last two ways spare callers a proof.
 -- Source: new.
 abbrev pub IsReversible : ℕ → Type 0
 IsReversible n = IsZeroOrPowerOfTwo n ⊎ IsTrue (bit_and n (n - 1) == 0 || is_power_of_two n)
@@ -21,10 +20,9 @@ IsReversible n = IsZeroOrPowerOfTwo n ⊎ IsTrue (bit_and n (n - 1) == 0 || is_p
 abbrev pub FitsRows : (len row_width : ℕ) → Type 0
 FitsRows len row_width = (rows : ℕ) × IsZeroOrPowerOfTwo rows × (len ≡ row_width * rows)
 
--- The two lists have the same length. If `old` has `2 ^ k` rows of `row_width` items, row r of
--- `new` has the items of row `rev k r` of `old`, in the same order.
--- Source: the comment above the bit reversal kernels of p3-util 0.8.0, for rows of one item. Wider
--- rows are new.
+-- The two lists have the same length. If `old` has `2 ^ k` rows of `row_width` items, row r of `new` has the items of
+-- row `rev k r` of `old`, in the same order.
+-- Source: the comment above the bit reversal kernels of p3-util 0.8.0, for rows of one item. Wider rows are new.
 pub record IsRowReversal {A : Type 0} (row_width : ℕ) (old new : List A) : Type 0 where
   pub same_length : length new ≡ length old
   pub places : (k r j : ℕ) → length old ≡ row_width * 2 ^ k → r < 2 ^ k → j < row_width

@@ -40,9 +40,8 @@ squares_apart = side_cases (λ side. (a b : ℕ) → a < b → (a - a % side ≡
     (λ a b h. elim (cases_lt (a - a % 4) (b - b % 4)) [ inl u ↦ inr (omega arith) | inr u ↦ inl (omega arith) ])
     (λ a b h. elim (cases_lt (a - a % 8) (b - b % 8)) [ inl u ↦ inr (omega arith) | inr u ↦ inl (omega arith) ])
 
--- Some squares of the transpose are in n columns of a list. The square of column c begins in row
--- `top` of its first column. Row r of the list begins at entry r of `x`, and row c of the input at
--- entry c of `y`
+-- Some squares of the transpose are in n columns of a list. The square of column c begins in row `top` of its first
+-- column. Row r of the list begins at entry r of `x`, and row c of the input at entry c of `y`
 pub record SquaresMoved {A : Type 0} (n side : ℕ) (top : ℕ → ℕ) (x y : List ℕ) (input old new : List A) : Type 0 where
   pub same_length : length new ≡ length old
   pub places : (r c : ℕ) → c < n → top (c - c % side) ≤ r → r < top (c - c % side) + side → slice_get new (slice_index x r + c) ≡ slice_get input (slice_index y c + r)

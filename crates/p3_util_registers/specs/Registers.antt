@@ -5,8 +5,7 @@ use Rattle.p3_util_kernels.specs.Stages.{item_at}
 use Rattle.p3_util_kernels.specs.declared.places.bulk.Block.{Block}
 use Rattle.p3_util_registers.specs.declared.registers.Four.{Four}
 
--- The first items of c are, in turn, n items of `a` from place i on and n items of `b` from place j
--- on
+-- The first items of c are, in turn, n items of `a` from place i on and n items of `b` from place j on
 pub record AreInterleaved {A : Type 0} (n i j : ℕ) (a b c : List A) : Type 0 where
   pub first : (t : ℕ) → t < n → slice_get c (2 * t) ≡ slice_get a (i + t)
   pub second : (t : ℕ) → t < n → slice_get c (2 * t + 1) ≡ slice_get b (j + t)
@@ -44,8 +43,7 @@ IsNextStage side old new = (i h t e : ℕ) → i < 2 → h < 2 → t < side → 
 abbrev pub AreColumns : {A : Type 0} → ℕ → List ℕ → List A → List (List A) → Type 0
 AreColumns side places list four = (c r : ℕ) → c < 8 → r < side → item_at four (c / 2) (side * (c % 2) + r) ≡ slice_get list (slice_index places (c - c % side + r) + c % side)
 
--- Two runs of a list, from places i and j on, hold the items of a register. All other items stay
--- where they are
+-- Two runs of a list, from places i and j on, hold the items of a register. All other items stay where they are
 pub record IsStored {A : Type 0} (side i j : ℕ) (items old new : List A) : Type 0 where
   pub same_length : length new ≡ length old
   pub first : (t : ℕ) → t < side → slice_get new (i + t) ≡ slice_get items t
@@ -59,8 +57,7 @@ pub record AreStored {A : Type 0} (n side : ℕ) (to : List ℕ) (four : List (L
   pub rows : (c t : ℕ) → c < n → t < side → slice_get new (slice_index to c + t) ≡ item_at four (c / 2) (side * (c % 2) + t)
   pub others : (p : ℕ) → ((c : ℕ) → c < n → (p < slice_index to c) ⊎ (slice_index to c + side ≤ p)) → slice_get new p ≡ slice_get old p
 
--- A run of a list, from place i on, holds the items of a register. All other items stay where they
--- are
+-- A run of a list, from place i on, holds the items of a register. All other items stay where they are
 pub record IsRunStored {A : Type 0} (count i : ℕ) (items old new : List A) : Type 0 where
   pub same_length : length new ≡ length old
   pub run : (t : ℕ) → t < count → slice_get new (i + t) ≡ slice_get items t

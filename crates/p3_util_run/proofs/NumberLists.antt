@@ -1,8 +1,6 @@
--- Lists of numbers as JSON: which values are not such lists, and that the text of such a list has
--- no float.
-use Rattle.std.proofs.Common.{◌≡◌, ℕ, ◌<◌, List, [], ◌∷◌, map, length, get_or, false, Some, None, Result, Ok, Err, IfOk, ap, subst, refl, sym, ◌∙◌, arith}
+-- Lists of numbers as JSON: which values are not such lists, and that the text of such a list has no float.
+use Rattle.std.proofs.Common.{◌≡◌, ℕ, ◌<◌, List, [], ◌∷◌, map, length, get_or, false, Some, None, Result, Ok, Err, IfOk, ap, subst, refl, sym, ◌∙◌, option_and_then, arith}
 use Rattle.std.proofs.lemmas.List.{get_or-map, length-map}
-use Rattle.std.specs.Option.{option_and_then}
 use Rattle.serde_json.specs.Data.{Data}
 use Rattle.serde_json.specs.Find.{as_array, as_number, as_u64}
 use Rattle.serde_json.specs.View.{items_of}

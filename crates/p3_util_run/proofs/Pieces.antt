@@ -4,8 +4,7 @@ use Rattle.std.proofs.KnownBytes.{Appends-trans}
 use Rattle.std.proofs.lemmas.List.{take_rest}
 use Rattle.std.specs.Io.KnownBytes.{Appends}
 
--- the bytes that are known to be written, followed by the bytes that are still to be written, are
--- the text
+-- the bytes that are known to be written, followed by the bytes that are still to be written, are the text
 abbrev pub IsPartOf : Option (List ℕ) → Option (List ℕ) → (rest text : List ℕ) → Type 0
 IsPartOf old new rest text = (done : List ℕ) × Appends old new done × (done ++ rest ≡ text)
 

@@ -1,5 +1,4 @@
--- What the program does: the text that it writes for its arguments and its input, and why it ends
--- without one.
+-- What the program does: the text that it writes for its arguments and its input, and why it ends without one.
 -- Source: new.
 use Rattle.std.specs.Prelude.{ℕ, ◌≡◌, ◌⊎◌, ◌*◌, List, length, map, String, string_bytes, Option, Result, Ok, Err, IsSomeAnd, MatchOption, ⊤}
 use Rattle.std.specs.declared.alloc.Global.{Global}
@@ -40,9 +39,8 @@ misfit (Transpose width height) len = NotTheLength width height len
 abbrev pub Answers : Command → (input text : List ℕ) → Type 0
 Answers command input text = (old new : List ℕ) × IsArrayOf input old × Fits command (length old) × IsRearranged command old new × (text ≡ line_of new)
 
--- The command has no answer for the input, and the fault says why. It is `NotAnArray` if the input
--- is not a JSON array of numbers. If the length of the array does not fit the command, it is the
--- `misfit`
+-- The command has no answer for the input, and the fault says why. It is `NotAnArray` if the input is not a JSON array
+-- of numbers. If the length of the array does not fit the command, it is the `misfit`
 abbrev pub Refuses : Command → List ℕ → RunFault → Type 0
 Refuses command input fault = ((fault ≡ NotAnArray) × ((xs : List ℕ) → ¬ IsArrayOf input xs))
     ⊎ ((xs : List ℕ) × IsArrayOf input xs × ¬ Fits command (length xs) × (fault ≡ misfit command (length xs)))
@@ -52,9 +50,8 @@ Refuses command input fault = ((fault ≡ NotAnArray) × ((xs : List ℕ) → ¬
 abbrev pub Out : (words : List (List ℕ)) (input text : List ℕ) → Type 0
 Out words input text = IsSomeAnd (command_of words) (λ command. Answers command input text)
 
--- the fault with which the program ends if `Out` holds for no text. It is `UnknownCommand` if the
--- arguments have no `command_of`, and otherwise the fault with which the command `Refuses` the
--- input
+-- the fault with which the program ends if `Out` holds for no text. It is `UnknownCommand` if the arguments have no
+-- `command_of`, and otherwise the fault with which the command `Refuses` the input
 abbrev pub Fault : (words : List (List ℕ)) (input : List ℕ) → RunFault → Type 0
 Fault words input fault = MatchOption (command_of words) (fault ≡ UnknownCommand) (λ command. Refuses command input fault)
 
@@ -73,8 +70,7 @@ IsOfInput Memory = ⊥
 IsOfInput Write = ⊥
 IsOfInput (BadRows width len) = ⊤
 
--- the result is none of the faults `Read`, `Memory` and `Write`: the reader, the memory and the
--- writer did not fail
+-- the result is none of the faults `Read`, `Memory` and `Write`: the reader, the memory and the writer did not fail
 abbrev pub IsSettled : {T : Type 0} → Result T RunFault → Type 0
 IsSettled (Ok _) = ⊤
 IsSettled (Err UnknownCommand) = ⊤

@@ -4,9 +4,8 @@ use Rattle.std.specs.Prelude.{Bool, ℕ, ◌≡◌, ◌+◌, ◌-◌, ◌^◌, �
 use Rattle.p3_util_run.specs.declared.watched.InputEnd.{InputEnd}
 use Rattle.p3_util_run.specs.declared.watched.InputEnd.TheVariants.{Ahead, Reached, Passed}
 
--- what a contract sees of a `Watched`, which is a reader or a writer whose failures are counted:
--- the reader or writer inside, the number of its failures, how far a reader has read, and whether a
--- writer is flushed
+-- what a contract sees of a `Watched`, which is a reader or a writer whose failures are counted: the reader or writer
+-- inside, the number of its failures, how far a reader has read, and whether a writer is flushed
 pub record Watch (T : Type 0) : Type 0 where
   pub inner : T
   pub failures : ℕ

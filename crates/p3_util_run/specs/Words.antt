@@ -12,8 +12,7 @@ abbrev pub decimal_value : List ℕ → ℕ
 decimal_value [] = 0
 decimal_value (digit ∷ rest) = (digit - 48) * 10 ^ length rest + decimal_value rest
 
--- a side of a matrix, or the width of a row: one or more decimal digits, whose value is below
--- `2 ^ 64`
+-- a side of a matrix, or the width of a row: one or more decimal digits, whose value is below `2 ^ 64`
 abbrev pub side_of : List ℕ → Option ℕ
 side_of word = if nat_lt 0 (length word) && list_all is_ascii_digit word && nat_lt (decimal_value word) (2 ^ 64) then Some (decimal_value word) else None
 

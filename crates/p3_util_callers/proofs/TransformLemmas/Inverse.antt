@@ -1,5 +1,4 @@
--- The inverse transform is a transform with the inverse of the root, after which each number is
--- scaled.
+-- The inverse transform is a transform with the inverse of the root, after which each number is scaled.
 use Rattle.std.proofs.Common.{◌≡◌, ℕ, ◌+◌, ◌-◌, ◌*◌, ◌%◌, ◌^◌, ◌<◌, List, length, get_or, refl, sym, ap, ◌∙◌, arith}
 use Rattle.std.proofs.Math.Nat.{mod-add-mod, mod-mod}
 use Rattle.std.proofs.lemmas.Nat.{mul-add-lt, pow_pos, pow-add, pow-mod}

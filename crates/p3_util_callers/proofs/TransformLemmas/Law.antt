@@ -108,8 +108,7 @@ powers_cancel (suc k) w d is_root some =
           mod-mul PRIME (z + 1) (z + 1) inner 0 refl none ∙ ap (λ m. m % PRIME) nothing
     ]
 
--- the exponents at one place of the inverse: the root to the power of i, times its inverse to the
--- power of r
+-- the exponents at one place of the inverse: the root to the power of i, times its inverse to the power of r
 mixed : (w k i r j : ℕ) → w ^ (j * i) * (w ^ (2 ^ k - 1)) ^ (r * j) ≡ (w ^ (i + (2 ^ k - 1) * r)) ^ j
 mixed w k i r j =
     let n = 2 ^ k - 1 in
@@ -255,7 +254,6 @@ Matrix-same a b items width height =
     let make : List ℕ → ℕ → ℕ → Matrix ℕ = λ x w h. record { items = x; width = w; height = h } in
     ap (λ x. make x a.width a.height) items ∙ ap (λ w. make b.items w a.height) width ∙ ap (λ h. make b.items b.width h) height
 
--- if the numbers at all indices of a list are below the prime, all numbers are, since past the end
--- `get_or` gives 0
+-- if the numbers at all indices of a list are below the prime, all numbers are, since past the end `get_or` gives 0
 pub AreBelowPrime-each : (xs : List ℕ) → EachIndex xs (λ i. get_or xs i 0 < PRIME) → AreBelowPrime xs
 AreBelowPrime-each xs each i = elim (cases_lt i (length xs)) [ inl inside ↦ each i inside | inr past ↦ rw (get_or_past xs i 0 past) (omega arith) ]

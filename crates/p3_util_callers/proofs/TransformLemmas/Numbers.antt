@@ -1,6 +1,5 @@
 -- Laws of remainders and powers, and of the table of roots.
-use Rattle.std.proofs.Common.{◌≡◌, ◌≢◌, ℕ, suc, ◌+◌, ◌*◌, ◌/◌, ◌%◌, ◌^◌, ◌<◌, true, ◌==◌, get_or, refl, sym, ap, ◌∙◌, arith, eqb-true}
-use Rattle.std.proofs.Math.Nat.{pow-suc}
+use Rattle.std.proofs.Common.{◌≡◌, ◌≢◌, ℕ, suc, ◌+◌, ◌*◌, ◌/◌, ◌%◌, ◌^◌, ◌<◌, true, ◌==◌, get_or, refl, sym, ap, ◌∙◌, eqb-true, pow-suc, arith}
 use Rattle.std.proofs.lemmas.Grind.{pow_more}
 use Rattle.std.proofs.lemmas.Nat.{pow-add, mul-pow, mul-mod_first, mul-mod_second, pow-mod}
 use Rattle.p3_util_kernels.proofs.BitsLemmas.Tables.{all_below, all_below-at}

@@ -5,8 +5,7 @@ use Rattle.std.proofs.lemmas.Nat.{div-add-mod', mul-mod, mul-pow, pow-add, pow-m
 
 -- numbers that differ by multiples of p have equal remainders
 pub mod-by_multiples : (p a b u v : ℕ) → a + u * p ≡ b + v * p → a % p ≡ b % p
-mod-by_multiples p a b u v e =
-    sym (add-mul-mod_self_right a u p) ∙ ap (λ n. n % p) e ∙ add-mul-mod_self_right b v p
+mod-by_multiples p a b u v e = sym (add-mul-mod_self_right a u p) ∙ ap (λ n. n % p) e ∙ add-mul-mod_self_right b v p
 
 -- the remainder of a sum
 pub mod-add : (p a b c d : ℕ) → a % p ≡ b % p → c % p ≡ d % p → (a + c) % p ≡ (b + d) % p
@@ -65,8 +64,7 @@ one_pow (suc n) =
 
 -- a power of a number that is 1 modulo p
 pub one-power : (p z n : ℕ) → z % p ≡ 1 % p → (z ^ n) % p ≡ 1 % p
-one-power p z n h =
-    sym (pow-mod z n p) ∙ ap (λ m. m ^ n % p) h ∙ pow-mod 1 n p ∙ ap (λ m. m % p) (one_pow n)
+one-power p z n h = sym (pow-mod z n p) ∙ ap (λ m. m ^ n % p) h ∙ pow-mod 1 n p ∙ ap (λ m. m % p) (one_pow n)
 
 -- an odd power of -1 modulo p
 pub minus_one-odd : (p z n : ℕ) → (z + 1) % p ≡ 0 → z ^ (n + n + 1) % p ≡ z % p

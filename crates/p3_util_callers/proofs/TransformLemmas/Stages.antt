@@ -1,11 +1,9 @@
 -- The state of a transform at the start, after each stage and at the end.
-use Rattle.std.proofs.Common.{◌≡◌, ℕ, suc, ◌+◌, ◌-◌, ◌*◌, ◌/◌, ◌%◌, ◌^◌, ◌<◌, List, [], ◌++◌, length, get_or, take, drop, inl, inr, refl, sym, ap, subst, ◌∙◌, arith}
-use Rattle.std.proofs.Math.Nat.{mod-eq_of_lt, mul_comm, mul-lt-mul_of_pos_right}
+use Rattle.std.proofs.Common.{◌≡◌, ℕ, suc, ◌+◌, ◌-◌, ◌*◌, ◌/◌, ◌%◌, ◌^◌, ◌<◌, List, [], ◌++◌, length, get_or, take, drop, inl, inr, refl, sym, ap, subst, ◌∙◌, mod-eq_of_lt, mul_comm, mul-lt-mul_of_pos_right, unwrap_or, arith}
 use Rattle.std.proofs.lemmas.Bool.{cases_lt}
 use Rattle.std.proofs.lemmas.List.{append-nil, drop_all, get_or_past, take_all}
 use Rattle.std.proofs.lemmas.Nat.{div-add-mod', div_below, mod_below, pow-add, pow_pos}
 use Rattle.std.proofs.lemmas.Option.{unwrap_or-slice_get}
-use Rattle.std.specs.Option.{unwrap_or}
 use Rattle.p3_util.specs.Digits.{rev}
 use Rattle.p3_util.specs.Reversal.{IsRowReversal}
 use Rattle.p3_util_callers.specs.Stages.{AreBelowPrime, AreBlocksJoined, ArePowers, IsRoot, IsStage, part}

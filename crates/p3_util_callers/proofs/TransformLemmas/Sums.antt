@@ -1,5 +1,4 @@
--- Sums over places, and the reversal of a number with one more digit. The other laws of these are
--- in `p3_util_kernels`.
+-- Sums over places, and the reversal of a number with one more digit. The other laws of these are in `p3_util_kernels`.
 use Rattle.std.proofs.Common.{◌≡◌, ℕ, zero, suc, ◌+◌, ◌*◌, ◌%◌, ◌^◌, ◌<◌, refl, arith}
 use Rattle.p3_util_kernels.proofs.BitsLemmas.Digits.{rev-one, rev-parts}
 use Rattle.p3_util.specs.Digits.{rev}

@@ -35,8 +35,7 @@ rev-suc k x =
 -- reversing k digits gives a number of k digits
 pub rev-lt : (k x : ℕ) → rev k x < 2 ^ k
 rev-lt zero x = rw (rev-zero x) (omega arith)
-rev-lt (suc k) x =
-    rw (rev-suc k x) (rw pow-suc (omega (arith, rev-lt k x, bit_at-lt x k)))
+rev-lt (suc k) x = rw (rev-suc k x) (rw pow-suc (omega (arith, rev-lt k x, bit_at-lt x k)))
 
 -- only the k low digits are read
 pub rev-mod : (k x : ℕ) → rev k (x % 2 ^ k) ≡ rev k x
@@ -71,8 +70,7 @@ rev-rev k x =
 pub rev-rev-below : (k x : ℕ) → x < 2 ^ k → rev k (rev k x) ≡ x
 rev-rev-below k x h = rev-rev k x ∙ mod-eq_of_lt h
 
--- the reversed low digits are the high part of the result, and the reversed high digits the low
--- part
+-- the reversed low digits are the high part of the result, and the reversed high digits the low part
 pub rev-add : (j k x : ℕ) → rev (j + k) x ≡ rev k x * 2 ^ j + rev j (x / 2 ^ k)
 rev-add zero k x =
     let e : 0 + k ≡ k = omega arith in
@@ -101,8 +99,7 @@ rev-one (suc (suc d)) m few h = absurd (omega arith)
 pub middle-below : (q d m y : ℕ) → m < 2 ^ d → y < 2 ^ q → m * 2 ^ q + y < 2 ^ (d + q)
 middle-below q d m y middle h = rw (pow-add 2 d q) (omega (arith, mul-add-lt m (2 ^ q) y (2 ^ d) middle h))
 
--- The same for a number in three parts: q digits, at most one digit, and q digits. The middle part
--- stays in the middle.
+-- The same for a number in three parts: q digits, at most one digit, and q digits. The middle part stays in the middle.
 pub rev-around : (q d a m y : ℕ) → d ≤ 1 → m < 2 ^ d → y < 2 ^ q
     → rev (q + (d + q)) (a * 2 ^ (d + q) + (m * 2 ^ q + y)) ≡ rev q y * 2 ^ (d + q) + (m * 2 ^ q + rev q a)
 rev-around q d a m y few middle h =
@@ -119,8 +116,7 @@ unfolding rev_word
 rev_word-above zero x h = absurd (omega arith)
 rev_word-above (suc k) x h = refl
 
--- the k low digits, reversed, are the k highest of the 64 reversed digits r; if k is 0, the result
--- is all of r
+-- the k low digits, reversed, are the k highest of the 64 reversed digits r; if k is 0, the result is all of r
 pub rev_word-shr : (r k s x : ℕ) → r ≡ rev 64 x → (k ≡ 0 → s ≡ 0) → (0 < k → s + k ≡ 64) → r / 2 ^ s ≡ rev_word k x
 rev_word-shr r zero s x is whole part = rw (whole refl, div-one r) (is ∙ sym (rev_word-zero x))
 rev_word-shr r (suc k) s x is whole part =

@@ -1,11 +1,10 @@
 -- Short names, as the code finds them: by the first mark and by the first `::`.
-use Rattle.std.proofs.Common.{◌≡◌, ℕ, zero, suc, ◌+◌, ◌<◌, ◌≤◌, ◌≢◌, ◌⊎◌, true, false, ◌==◌, ◌&&◌, List, [], ◌∷◌, ◌++◌, length, get_or, take, drop, Some, None, refl, sym, add-one, append-nil, arith, inl, inr}
+use Rattle.std.proofs.Common.{◌≡◌, ℕ, zero, suc, ◌+◌, ◌<◌, ◌≤◌, ◌≢◌, ◌⊎◌, true, false, ◌==◌, ◌&&◌, List, [], ◌∷◌, ◌++◌, length, get_or, take, drop, Some, None, refl, sym, add-one, append-nil, inl, inr, IsUtf8, IsCharBoundary, arith}
 use Rattle.std.proofs.lemmas.Bool.Decides.{nat_tests}
 use Rattle.std.proofs.lemmas.List.Quantifiers.{position-Some}
 use Rattle.std.proofs.lemmas.List.Sums.{fails_before_first}
 use Rattle.std.proofs.lemmas.Str.{IsCharBoundary-after_ascii}
 use Rattle.std.specs.List.{position, position_or_len}
-use Rattle.std.specs.Str.{IsUtf8, IsCharBoundary}
 use Rattle.std.specs.Str.Pattern.{HasTextAt}
 use Rattle.p3_util_kernels.specs.Names.{is_mark, in_front, name_pieces, after_colons, last_part, short_name}
 
@@ -69,8 +68,7 @@ length-last_part t = after_colons-length t t (length t) (omega arith) (omega ari
 name_pieces-none : (t : List ℕ) → ((i : ℕ) → i < length t → is_mark (get_or t i 0) ≡ false) → name_pieces t ≡ t ∷ []
 unfolding name_pieces in_front
 name_pieces-none [] h = refl
-name_pieces-none (b ∷ t) h =
-    rw (h 0 (omega arith), name_pieces-none t (λ i less. h (suc i) (omega arith))) refl
+name_pieces-none (b ∷ t) h = rw (h 0 (omega arith), name_pieces-none t (λ i less. h (suc i) (omega arith))) refl
 
 -- the first piece ends at the first mark
 name_pieces-first : (t : List ℕ) (i : ℕ) → i < length t

@@ -1,9 +1,7 @@
 -- Laws of powers of two, and what std's test for them means.
-use Rattle.std.proofs.Common.{◌≡◌, ℕ, zero, suc, ◌+◌, ◌-◌, ◌*◌, ◌^◌, ◌<◌, ◌≤◌, ◌↔◌, IsTrue, w64, refl, sym, ◌∙◌, ap, add-one, arith}
+use Rattle.std.proofs.Common.{◌≡◌, ℕ, zero, suc, ◌+◌, ◌-◌, ◌*◌, ◌^◌, ◌<◌, ◌≤◌, ◌↔◌, IsTrue, w64, refl, sym, ◌∙◌, ap, add-one, eqb-true, eq-eqb, pow_mono, arith}
 use Rattle.std.proofs.Math.Nat.{pow-suc, pow-le-pow_right, one-le-pow}
-use Rattle.std.proofs.lemmas.Bool.{eqb-true, eq-eqb}
 use Rattle.std.proofs.lemmas.Nat.{pow_pos, pow_below, zero_from_ones, leading_length, leading_top}
-use Rattle.std.proofs.Math.Pow.{pow_mono}
 use Rattle.std.proofs.lemmas.Nat.Bits.{bit_at-pow_other, bit_at-trailing_zeros}
 use Rattle.std.specs.Int.{IsPowerOfTwo, is_power_of_two, bit_at, trailing_zeros}
 use Rattle.p3_util_kernels.specs.Powers.{IsPowerOfThree}

@@ -1,8 +1,6 @@
 -- Rows of a list as grids: those whose indices have the same middle bit form one grid.
-use Rattle.std.proofs.Common.{◌≡◌, ℕ, ◌+◌, ◌-◌, ◌*◌, ◌^◌, ◌<◌, ◌≤◌, List, inl, inr, sym, ap, ◌∙◌, refl, arith}
-use Rattle.std.proofs.Math.Nat.{mul-le-mul_right}
+use Rattle.std.proofs.Common.{◌≡◌, ℕ, ◌+◌, ◌-◌, ◌*◌, ◌^◌, ◌<◌, ◌≤◌, List, inl, inr, sym, ap, ◌∙◌, refl, mul-le-mul_right, pow-add, arith}
 use Rattle.std.proofs.lemmas.Bool.{cases_lt}
-use Rattle.std.proofs.lemmas.Nat.{pow-add}
 use Rattle.p3_util_kernels.specs.declared.grid.Grid.{Grid}
 use Rattle.p3_util_kernels.specs.Crossing.{HoldsRows, IsRowItem, row_of}
 use Rattle.p3_util_kernels.specs.Digits.{rev}

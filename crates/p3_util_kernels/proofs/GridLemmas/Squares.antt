@@ -1,7 +1,5 @@
 -- A square of items as a grid whose rows are in order.
-use Rattle.std.proofs.Common.{◌≡◌, ℕ, false, ◌+◌, ◌-◌, ◌*◌, ◌^◌, ◌<◌, ◌≤◌, List, length, inl, refl, arith}
-use Rattle.std.proofs.Math.Nat.{mul-le-mul_right}
-use Rattle.std.proofs.Math.Pow.{pow_mono}
+use Rattle.std.proofs.Common.{◌≡◌, ℕ, false, ◌+◌, ◌-◌, ◌*◌, ◌^◌, ◌<◌, ◌≤◌, List, length, inl, refl, mul-le-mul_right, pow_mono, arith}
 use Rattle.p3_util_kernels.specs.declared.grid.Grid.{Grid}
 use Rattle.p3_util_kernels.specs.Grid.{HoldsGrid, SwapsInGrid, row_place, square_at}
 use Rattle.p3_util_kernels.specs.Square.{IsSquareTransposed}

@@ -50,8 +50,7 @@ one-split false c = refl
 
 pub count-split : (n : ℕ) (t s : ℕ → Bool) → count_below n t ≡ count_below n (λ i. t i && not (s i)) + count_below n (λ i. t i && s i)
 count-split zero t s = omega (arith, count-zero)
-count-split (suc n) t s =
-    omega (arith, count-split n t s, count-suc n, one-split (t n) (s n))
+count-split (suc n) t s = omega (arith, count-split n t s, count-suc n, one-split (t n) (s n))
 
 -- if the count is not 0, some number passes
 pub count-some : (n : ℕ) (t : ℕ → Bool) → 0 < count_below n t → (i : ℕ) × (i < n) × IsTrue (t i)
@@ -112,8 +111,7 @@ count-below : (n k : ℕ) → count_below n (λ x. nat_lt x k) ≡ min k n
 count-below zero k = count-zero (λ x. nat_lt x k) ∙ omega arith
 count-below (suc n) k = count-suc n (λ x. nat_lt x k) ∙ grind (arith, nat_tests, count-below n k)
 
--- a matrix in which row r passes at its first `first r` columns, where `all` grows at r by that
--- number
+-- a matrix in which row r passes at its first `first r` columns, where `all` grows at r by that number
 pub count-first : (side rows : ℕ) (first all : ℕ → ℕ) → ((r : ℕ) → r < rows → (first r ≤ side) × (all (suc r) ≡ all r + first r))
     → count_below (rows * side) (λ i. nat_lt (i % side) (first (i / side))) + all 0 ≡ all rows
 count-first side zero first all next = let e : zero * side ≡ 0 = omega arith in rw e (omega (arith, count-zero (λ i. nat_lt (i % side) (first (i / side)))))

@@ -1,7 +1,6 @@
 -- How many places a list of exchanges or of writes changes, how many numbers are their own reverse,
 -- and what follows from this for the least number of steps.
-use Rattle.std.proofs.Common.{◌≡◌, ◌≢◌, ◌↔◌, ℕ, zero, suc, Bool, true, not, ◌==◌, ◌+◌, ◌*◌, ◌/◌, ◌%◌, ◌^◌, ◌<◌, ◌≤◌, IsTrue, List, length, slice_get, ◌∙◌, ap, arith}
-use Rattle.std.proofs.Math.Nat.{mul_comm, pow-suc}
+use Rattle.std.proofs.Common.{◌≡◌, ◌≢◌, ◌↔◌, ℕ, zero, suc, Bool, true, not, ◌==◌, ◌+◌, ◌*◌, ◌/◌, ◌%◌, ◌^◌, ◌<◌, ◌≤◌, IsTrue, List, length, slice_get, ◌∙◌, ap, mul_comm, pow-suc, arith}
 use Rattle.std.proofs.lemmas.Bool.Decides.{nat_tests}
 use Rattle.std.proofs.lemmas.Nat.{same_from_place, div_below, div-add-mod', div-mul-add, mod_below, mod-mul-add, mul-add-lt, pow-add, pow_pos}
 use Rattle.p3_util_kernels.specs.Digits.{rev}

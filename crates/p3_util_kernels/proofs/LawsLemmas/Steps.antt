@@ -1,6 +1,5 @@
 -- Steps from one list to another: no step, one step, and the steps of two lists together.
-use Rattle.std.proofs.Common.{◌≡◌, ℕ, ◌+◌, List, [], ◌∷◌, ◌++◌, slice_set, length-append, refl, sym, ◌∙◌, ap, arith}
-use Rattle.std.specs.Prelude.{swap}
+use Rattle.std.proofs.Common.{◌≡◌, ℕ, ◌+◌, List, [], ◌∷◌, ◌++◌, slice_set, length-append, refl, sym, ◌∙◌, ap, swap, arith}
 use Rattle.p3_util_kernels.specs.Least.{PutsLead, StepsLead, SwapsLead, after_puts, after_swaps}
 
 more_steps : {A S : Type 0} (after : List A → List S → List A) → ((xs : List A) (s t : List S) → after xs (s ++ t) ≡ after (after xs s) t)

@@ -1,9 +1,7 @@
 -- A block is put item by item, and what it leaves is the transpose of a region.
-use Rattle.std.proofs.Common.{◌≡◌, ℕ, ◌+◌, ◌-◌, ◌*◌, ◌<◌, ◌≤◌, ◌++◌, List, [], ◌∷◌, zero, suc, Bor, Some, IfSome, length, slice_get, slice_set, take, drop, length-drop, refl, sym, ap, ◌∙◌, inl, inr, arith}
+use Rattle.std.proofs.Common.{◌≡◌, ℕ, ◌+◌, ◌-◌, ◌*◌, ◌<◌, ◌≤◌, ◌++◌, List, [], ◌∷◌, zero, suc, Bor, Some, IfSome, length, slice_get, slice_set, take, drop, length-drop, refl, sym, ap, ◌∙◌, inl, inr, length-take, length-set, arith}
 use Rattle.std.proofs.Math.Nat.{lt_of_mul-lt-mul_left, mul-le-mul_left}
-use Rattle.std.proofs.Math.ListN.{length-take}
 use Rattle.std.proofs.lemmas.Bool.{cases_eq, cases_lt}
-use Rattle.std.proofs.lemmas.List.{length-set}
 use Rattle.std.proofs.lemmas.Nat.{mul-add-lt, same_from_place}
 use Rattle.p3_util_kernels.specs.declared.places.bulk.Block.{Block}
 use Rattle.p3_util_kernels.specs.declared.transpose.regions.Region.{Region}

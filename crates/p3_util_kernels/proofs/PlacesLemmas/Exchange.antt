@@ -1,7 +1,6 @@
 -- Which item is at each place of a list after one exchange or one write: the item that was written
 -- or that came from the other place, and at all other places the item that was there.
-use Rattle.std.proofs.Common.{ℕ, ◌≡◌, ◌≢◌, ◌<◌, List, [], ◌∷◌, length, set, Some, slice_get, refl, arith}
-use Rattle.std.specs.List.{swap}
+use Rattle.std.proofs.Common.{ℕ, ◌≡◌, ◌≢◌, ◌<◌, List, [], ◌∷◌, length, set, Some, slice_get, refl, swap, arith}
 use Rattle.std.proofs.lemmas.Grind.{common_steps}
 use Rattle.std.proofs.lemmas.Option.{gets}
 

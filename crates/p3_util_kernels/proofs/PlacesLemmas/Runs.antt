@@ -1,7 +1,5 @@
 -- Runs of places exchanged, place by place or as slices.
-use Rattle.std.proofs.Common.{◌≡◌, ℕ, ◌+◌, ◌-◌, min, max, ◌<◌, ◌≤◌, ◌⊎◌, List, ◌++◌, length, slice_get, take, drop, length-append, length-drop, inl, inr, refl, ap, ◌∙◌, arith}
-use Rattle.std.specs.List.{swap}
-use Rattle.std.proofs.Math.ListN.{length-take}
+use Rattle.std.proofs.Common.{◌≡◌, ℕ, ◌+◌, ◌-◌, min, max, ◌<◌, ◌≤◌, ◌⊎◌, List, ◌++◌, length, slice_get, take, drop, length-append, length-drop, inl, inr, refl, ap, ◌∙◌, swap, length-take, arith}
 use Rattle.std.proofs.lemmas.Bool.{cases_lt}
 use Rattle.std.proofs.lemmas.List.Edits.{length-swap}
 use Rattle.p3_util_kernels.specs.Exchanged.{RunsExchanged}
@@ -15,8 +13,7 @@ RunsExchanged-turned i j len old new h = record { same_length = h.same_length; f
 -- the same exchange with the lower run named first
 pub RunsExchanged-ordered : {A : Type 0} (i j low high len : ℕ) (old new : List A) → low ≡ min i j → high ≡ max i j
     → RunsExchanged low high len old new → RunsExchanged i j len old new
-RunsExchanged-ordered i j low high len old new is_low is_high h =
-    grind (arith, h, RunsExchanged-turned j i len old new)
+RunsExchanged-ordered i j low high len old new is_low is_high h = grind (arith, h, RunsExchanged-turned j i len old new)
 
 -- One pair of places is two runs of one item each. The place where such a run begins is the only
 -- place in it, so a statement about a place of the run is one about that place.
@@ -28,9 +25,8 @@ RunsExchanged-one i j old new first_in second_in swapped = record {
   others = λ p h k. rw swapped (slice_get-swap_other old i j p (elim h [ inl l ↦ omega arith | inr r ↦ omega arith ]) (elim k [ inl l ↦ omega arith | inr r ↦ omega arith ]));
 }
 
--- Two exchanged runs, and two more that follow them directly, are two longer runs. If a place is
--- past the end of the first two runs, the other two decide what is at it, and otherwise the first
--- two do.
+-- Two exchanged runs, and two more that follow them directly, are two longer runs. If a place is past the end of the
+-- first two runs, the other two decide what is at it, and otherwise the first two do.
 joined : {A : Type 0} (i j n m : ℕ) (old now next : List A) → i + (n + m) ≤ j → RunsExchanged i j n old now
     → RunsExchanged (i + n) (j + n) m now next → RunsExchanged i j (n + m) old next
 joined i j n m old now next apart before after = record {

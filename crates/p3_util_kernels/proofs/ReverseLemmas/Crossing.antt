@@ -1,6 +1,5 @@
 -- Rows and the parts of their indices. If all pairs of rows are exchanged, the rows are reversed.
-use Rattle.std.proofs.Common.{◌≡◌, ◌≢◌, ℕ, ◌+◌, ◌-◌, ◌*◌, ◌^◌, ◌<◌, ◌≤◌, ◌⊎◌, List, length, slice_get, sym, ap, ◌∙◌, arith}
-use Rattle.std.proofs.Math.Nat.{mul-le-mul_right}
+use Rattle.std.proofs.Common.{◌≡◌, ◌≢◌, ℕ, ◌+◌, ◌-◌, ◌*◌, ◌^◌, ◌<◌, ◌≤◌, ◌⊎◌, List, length, slice_get, sym, ap, ◌∙◌, mul-le-mul_right, arith}
 use Rattle.std.proofs.lemmas.Nat.{same_from_place}
 use Rattle.p3_util_kernels.specs.Crossing.{IsRowItem, row_of}
 use Rattle.p3_util_kernels.specs.Digits.{rev}

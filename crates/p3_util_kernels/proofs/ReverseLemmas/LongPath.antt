@@ -1,6 +1,5 @@
 -- The long path of bit reversal: chunks, squares, and chunks again.
-use Rattle.std.proofs.Common.{◌≡◌, ℕ, ◌+◌, ◌-◌, ◌*◌, ◌^◌, ◌<◌, ◌≤◌, List, length, slice_get, refl, sym, ap, ◌∙◌, arith}
-use Rattle.std.proofs.lemmas.Nat.{pow-add}
+use Rattle.std.proofs.Common.{◌≡◌, ℕ, ◌+◌, ◌-◌, ◌*◌, ◌^◌, ◌<◌, ◌≤◌, List, length, slice_get, refl, sym, ap, ◌∙◌, pow-add, arith}
 use Rattle.p3_util_kernels.specs.Digits.{rev}
 use Rattle.p3_util_kernels.specs.Reversal.{IsReversal, IsRowReversal}
 use Rattle.p3_util_kernels.specs.SideBySide.{AreTransposed}
@@ -8,9 +7,8 @@ use Rattle.p3_util_kernels.proofs.BitsLemmas.Digits.{rev-lt, rev-around}
 use Rattle.p3_util_kernels.proofs.ReverseLemmas.Reversal.{IsReversal-from_power}
 use Rattle.p3_util_kernels.proofs.ReverseLemmas.SideBySide.{each_part, in_row}
 
--- A list of 2 ^ size chunks of 2 ^ stride items, which form one square or two. If its chunks are
--- reversed, then each square is transposed, and then the chunks are reversed again, the list is
--- reversed by index bits.
+-- A list of 2 ^ size chunks of 2 ^ stride items, which form one square or two. If its chunks are reversed, then each
+-- square is transposed, and then the chunks are reversed again, the list is reversed by index bits.
 module _ {A : Type 0} (size stride : ℕ) (within : size ≤ stride) (few : stride ≤ size + 1) (old first second new : List A)
     (fits : length old ≡ 2 ^ (size + stride))
     (chunks : IsRowReversal (2 ^ stride) old first)

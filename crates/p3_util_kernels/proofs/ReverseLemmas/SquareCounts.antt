@@ -1,6 +1,5 @@
 -- How many pairs of rows are exchanged: those of all squares.
-use Rattle.std.proofs.Common.{◌≡◌, ℕ, ◌+◌, ◌-◌, ◌*◌, ◌/◌, ◌%◌, ◌^◌, ◌≤◌, ap, ◌∙◌, arith}
-use Rattle.std.proofs.lemmas.Nat.{pow-add}
+use Rattle.std.proofs.Common.{◌≡◌, ℕ, ◌+◌, ◌-◌, ◌*◌, ◌/◌, ◌%◌, ◌^◌, ◌≤◌, ap, ◌∙◌, pow-add, arith}
 use Rattle.p3_util_kernels.specs.SwapCounts.{short_swaps, square_swaps}
 use Rattle.p3_util_kernels.proofs.GridLemmas.Pairs.{twice-pairs}
 

@@ -1,7 +1,6 @@
 -- What the loop has read when it returns, by the lemmas on the items of a JSON list, and that a
 -- value has only one answer.
-use Rattle.std.proofs.Common.{map, take, ◌∙◌, arith}
-use Rattle.std.proofs.Math.ListN.{length-set}
+use Rattle.std.proofs.Common.{map, take, ◌∙◌, length-set, arith}
 use Rattle.std.proofs.lemmas.List.{length-map}
 use Rattle.serde_json.specs.View.{view}
 use Rattle.p3_util.proofs.JsonLists.{slice_get-view, AreReadAs-more, AreReadAs-first, AreReadAs-whole, IsArrayAnswer-at_list}

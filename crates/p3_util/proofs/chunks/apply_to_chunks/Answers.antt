@@ -1,7 +1,6 @@
 -- The calls on all pieces: by the lemmas on `Cuts`.
 use denote.Param.Always.{mut_next}
-use Rattle.std.proofs.Common.{◌≡◌, ap, ◌∙◌, length, take, refl, arith, ◌<◌}
-use Rattle.std.proofs.lemmas.List.{length-take-le}
+use Rattle.std.proofs.Common.{◌≡◌, ap, ◌∙◌, length, take, refl, ◌<◌, length-take-le, arith}
 use Rattle.p3_util.proofs.PiecesLemmas.{joined-pieces}
 use Rattle.p3_util.proofs.WholePieces.{folds-more, folds-all, Cuts-start, Cuts-more, calls-whole}
 use Rattle.p3_util.proofs.chunks.apply_to_chunks.Goals.{then-len-eq0, else-len-eq0+then-len}

@@ -1,6 +1,5 @@
 -- The height is a power of two exactly if it is the power with its logarithm as exponent.
-use Rattle.std.proofs.Common.{◌≡◌, ◌≤◌, ◌*◌, ◌%◌, ◌^◌, ◌∙◌, eqb-true, sym, ap, arith}
-use Rattle.std.proofs.lemmas.Bool.{eq-eqb}
+use Rattle.std.proofs.Common.{◌≡◌, ◌≤◌, ◌*◌, ◌%◌, ◌^◌, ◌∙◌, eqb-true, sym, ap, eq-eqb, arith}
 use Rattle.std.proofs.lemmas.Nat.{one_shl}
 use Rattle.p3_util_kernels.proofs.BitsLemmas.Powers.{exponent-le}
 use Rattle.p3_util_callers.proofs.transform.has_root.Goals as goal

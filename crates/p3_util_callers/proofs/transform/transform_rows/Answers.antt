@@ -1,7 +1,5 @@
--- The reversal makes the first stage, each turn makes one more, and the last stage is the
--- transform.
-use Rattle.std.proofs.Common.{◌≡◌, ◌-◌, ◌*◌, ◌^◌, ◌<◌, ◌∙◌, length, sym, subst, rules, arith}
-use Rattle.std.proofs.Math.Nat.{mul_comm, mul-lt-mul_of_pos_right}
+-- The reversal makes the first stage, each turn makes one more, and the last stage is the transform.
+use Rattle.std.proofs.Common.{◌≡◌, ◌-◌, ◌*◌, ◌^◌, ◌<◌, ◌∙◌, length, sym, subst, rules, mul_comm, mul-lt-mul_of_pos_right, arith}
 use Rattle.std.proofs.lemmas.Nat.{pow_below, pow_pos, pow-add}
 use Rattle.p3_util_callers.specs.Stages.{AreBlocksJoined, IsStage}
 use Rattle.p3_util_callers.proofs.TransformLemmas.Stages.{AreBelowPrime-reversed, IsStage-first, IsStage-last, IsStage-step, stage_half, stage_rows}

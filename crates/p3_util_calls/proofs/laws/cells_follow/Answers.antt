@@ -1,7 +1,5 @@
--- A place is in the columns of a part exactly if it is between the first cell of these columns and
--- that of the next.
-use Rattle.std.proofs.Common.{ℕ, ◌+◌, ◌*◌, ◌/◌, ◌%◌, ◌<◌, ◌≤◌, suc, ap, sym, arith}
-use Rattle.std.proofs.Math.Nat.{mul-le-mul_right, pos_of_ne-zero}
+-- A place is in the columns of a part exactly if it is between the first cell of these columns and that of the next.
+use Rattle.std.proofs.Common.{ℕ, ◌+◌, ◌*◌, ◌/◌, ◌%◌, ◌<◌, ◌≤◌, suc, ap, sym, mul-le-mul_right, pos_of_ne-zero, arith}
 use Rattle.std.proofs.lemmas.Nat.{div-add-mod', div_below, le-div, mod_below}
 use Rattle.p3_util_calls.specs.Parts.{start_of}
 use Rattle.p3_util_calls.proofs.laws.cells_follow.Goals as goal

@@ -1,6 +1,5 @@
 -- The number 0 is not a power of three.
-use Rattle.std.proofs.Common.{ℕ, subst, sym, arith}
-use Rattle.std.specs.Prelude.{◌↔◌, IsTrue, ◌==◌}
+use Rattle.std.proofs.Common.{ℕ, subst, sym, ◌↔◌, IsTrue, ◌==◌, arith}
 use mathlib.Core.Bool.{not}
 use Rattle.p3_util_kernels.specs.Powers.{IsPowerOfThree}
 use Rattle.p3_util_kernels.proofs.BitsLemmas.Powers.{three-pos}

@@ -1,6 +1,5 @@
 -- The number of digits of n - 1 is the least exponent whose power is at least n.
-use Rattle.std.proofs.Common.{arith}
-use Rattle.std.proofs.lemmas.Nat.{pow_pos}
+use Rattle.std.proofs.Common.{pow_pos, arith}
 use Rattle.p3_util_kernels.proofs.BitsLemmas.Logarithms.{below_double, clog_only, tight_below}
 use Rattle.p3_util_kernels.proofs.BitsLemmas.Powers.{digits_above, digits_least}
 use Rattle.p3_util_kernels.proofs.bits.log2_ceil_usize.Goals as goal

@@ -1,6 +1,5 @@
-use Rattle.std.proofs.Common.{◌≡◌, ◌+◌, ◌-◌, ◌*◌, ◌/◌, ◌^◌, ◌<◌, ◌≤◌, ℕ, sym, ap, ◌∙◌, arith, get_or}
+use Rattle.std.proofs.Common.{◌≡◌, ◌+◌, ◌-◌, ◌*◌, ◌/◌, ◌^◌, ◌<◌, ◌≤◌, ℕ, sym, ap, ◌∙◌, get_or, mod-eq_of_lt, mul-le-mul_right, arith}
 use Rattle.std.proofs.lemmas.Nat.{pow-add, pow_pos, shl-shr}
-use Rattle.std.proofs.Math.Nat.{mod-eq_of_lt, mul-le-mul_right}
 use Rattle.p3_util_kernels.specs.Digits.{rev}
 use Rattle.p3_util_kernels.proofs.BitsLemmas.Digits.{rev-shl, rev_word-above}
 use Rattle.p3_util_kernels.proofs.BitsLemmas.Tables.{reversed_six}

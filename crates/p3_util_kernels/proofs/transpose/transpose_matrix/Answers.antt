@@ -1,6 +1,5 @@
 -- The whole matrix has width * height items.
-use Rattle.std.proofs.Common.{◌≡◌, ℕ, ◌-◌, ◌*◌, arith}
-use Rattle.std.proofs.Math.Nat.{mul_comm}
+use Rattle.std.proofs.Common.{◌≡◌, ℕ, ◌-◌, ◌*◌, mul_comm, arith}
 use Rattle.p3_util_kernels.specs.declared.transpose.regions.Region.{Region}
 use Rattle.p3_util_kernels.specs.Region.{items_of}
 use Rattle.p3_util_kernels.proofs.transpose.transpose_matrix.Goals as goal

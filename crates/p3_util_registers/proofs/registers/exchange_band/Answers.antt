@@ -1,6 +1,5 @@
 -- Both parts are read before one of them is written.
-use Rattle.std.proofs.Common.{inr, refl, arith}
-use Rattle.std.proofs.Math.ListN.{replicate}
+use Rattle.std.proofs.Common.{inr, refl, replicate, arith}
 use Rattle.std.proofs.lemmas.List.{get_or-replicate}
 use Rattle.p3_util_registers.specs.Registers.{items_of_four}
 use Rattle.p3_util_registers.proofs.RegistersTiles.{AreDisjoint-rows, RowsExchanged-band}

@@ -1,6 +1,5 @@
 -- The rows of the squares are read from the source, and their columns are put.
-use Rattle.std.proofs.Common.{◌≡◌, ◌+◌, ◌*◌, arith}
-use Rattle.std.proofs.Math.ListN.{replicate}
+use Rattle.std.proofs.Common.{◌≡◌, ◌+◌, ◌*◌, replicate, arith}
 use Rattle.std.proofs.lemmas.List.{get_or-replicate}
 use Rattle.p3_util_registers.specs.Registers.{items_of_four}
 use Rattle.p3_util_registers.proofs.RegistersBlocks.{AreDisjoint-block_to, ColumnsPut-joined, ColumnsPut-step}

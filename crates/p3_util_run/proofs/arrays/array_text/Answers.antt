@@ -1,6 +1,5 @@
 -- The text of an array of numbers has no float, so it is written exactly.
-use Rattle.std.proofs.Common.{◌≡◌, ◌∙◌, map, take, string_bytes, ap, arith}
-use Rattle.std.proofs.lemmas.List.{take_all}
+use Rattle.std.proofs.Common.{◌≡◌, ◌∙◌, map, take, string_bytes, ap, take_all, arith}
 use Rattle.serde_json.specs.Data.{array}
 use Rattle.serde_json.specs.View.{items_of, view}
 use Rattle.p3_util_run.specs.Arrays.{number_of}

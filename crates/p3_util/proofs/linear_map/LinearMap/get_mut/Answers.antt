@@ -1,5 +1,4 @@
--- The loan at the place that `position` found: it writes the value of the key, and the keys stay
--- distinct.
+-- The loan at the place that `position` found: it writes the value of the key, and the keys stay distinct.
 use Rattle.std.proofs.Common.{refl}
 use Rattle.p3_util.proofs.MapLemmas.{lookup_nowhere, lookup_at_place, set_at_place, distinct_set_at_place, same_loan}
 use Rattle.p3_util.proofs.linear_map.LinearMap.get_mut.Goals as goal

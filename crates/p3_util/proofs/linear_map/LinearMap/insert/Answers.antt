@@ -18,8 +18,7 @@ returns-in-Some-clause-known_keys g c h =
     let found = rw (← c.self.view_is) at c.in-Some.ensures in
     rw (← c.self.view_is) (keys_set_at_place g.K.PartialEq.eq _ _ _ _ found c.index_mut.ensures.value _)
 
--- This stands after the clauses `put` and `known_keys`, so that the checker names those first if
--- the pairs are wrong.
+-- This stands after the clauses `put` and `known_keys`, so that the checker names those first if the pairs are wrong.
 pub invariant_of-self : goal.invariant_of-self
 invariant_of-self g c =
     let found = rw (← c.self.view_is) at c.in-Some.ensures in
@@ -49,8 +48,7 @@ returns-clause-put g c =
     rw (c.push_reserved.ensures.items, c.reserve.ensures.items, c.self.view_is) (sym (put_new g.K.PartialEq.eq _ _ (lookup_nowhere g.K.PartialEq.eq _ _ c.in_default.ensures) _))
 
 pub returns-clause-known_keys : goal.returns-clause-known_keys
-returns-clause-known_keys g c =
-    rw (← lookup_nowhere g.K.PartialEq.eq _ _ c.in_default.ensures) (λ h. cc)
+returns-clause-known_keys g c = rw (← lookup_nowhere g.K.PartialEq.eq _ _ c.in_default.ensures) (λ h. cc)
 
 pub returns-clause-distinct : goal.returns-clause-distinct
 returns-clause-distinct g c = invariant_of-self-2 g c

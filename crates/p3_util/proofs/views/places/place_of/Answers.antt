@@ -1,7 +1,5 @@
 -- The row of an item is one of the rows, and begins at the place that the code computes.
-use Rattle.std.proofs.Common.{ℕ, zero, suc, ◌*◌, ◌/◌, ◌<◌, ◌≡◌, ◌∙◌, ap, arith, length, sym}
-use Rattle.std.proofs.Math.Nat.{div-lt_iff_lt-mul}
-use Rattle.std.proofs.lemmas.List.{length-take-le}
+use Rattle.std.proofs.Common.{ℕ, zero, suc, ◌*◌, ◌/◌, ◌<◌, ◌≡◌, ◌∙◌, ap, length, sym, div-lt_iff_lt-mul, length-take-le, arith}
 use Rattle.std.proofs.lemmas.Nat.{div-add-mod', mod_below}
 use Rattle.p3_util.proofs.views.places.place_of.Goals as goal
 

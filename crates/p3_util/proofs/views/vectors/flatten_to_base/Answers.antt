@@ -1,8 +1,6 @@
--- Each turn of the loop moves one more row. After the loop the items are those of all rows, in
--- order.
-use Rattle.std.proofs.Common.{◌≡◌, ◌*◌, ap, arith, length, rules, ◌∙◌}
+-- Each turn of the loop moves one more row. After the loop the items are those of all rows, in order.
+use Rattle.std.proofs.Common.{◌≡◌, ◌*◌, ap, length, rules, ◌∙◌, take_all, arith}
 use Rattle.std.proofs.Math.Nat.{mul-mod_left}
-use Rattle.std.proofs.lemmas.List.{take_all}
 use Rattle.p3_util.specs.Flat.{flat}
 use Rattle.p3_util.proofs.Moved.{cut-more, left-more, moved-more-rows}
 use Rattle.p3_util.proofs.PiecesLemmas.{IsFlat-pieces, pieces-nil}

@@ -1,7 +1,5 @@
-use Rattle.std.proofs.Common.{◌≡◌, ℕ, ◌+◌, ◌*◌, ◌/◌, ◌%◌, ◌≤◌, List, [], ◌∷◌, ◌++◌, append-nil, arith, ap, length, length-append, rules, sym, vec_len, ◌∙◌}
-use Rattle.std.proofs.Math.Nat.{mul-le-mul_right}
+use Rattle.std.proofs.Common.{◌≡◌, ℕ, ◌+◌, ◌*◌, ◌/◌, ◌%◌, ◌≤◌, List, [], ◌∷◌, ◌++◌, append-nil, ap, length, length-append, rules, sym, vec_len, ◌∙◌, mul-le-mul_right, div-add-mod', arith}
 use Rattle.std.proofs.lemmas.Grind.{common_steps}
-use Rattle.std.proofs.lemmas.Nat.{div-add-mod'}
 use Rattle.std.specs.Vec.Iter.{into_iter_items}
 use Rattle.p3_util.specs.Flat.{flat}
 use Rattle.p3_util.specs.Pieces.{pieces}

@@ -1,6 +1,5 @@
--- The walk through the code of `item_mut` on a `&mut` to rows. The rows are lent on from behind
--- that reference, and then an item of them is lent. What is behind the reference at the end follows
--- from the two loans.
+-- The walk through the code of `item_mut` on a `&mut` to rows. The rows are lent on from behind that reference, and
+-- then an item of them is lent. What is behind the reference at the end follows from the two loans.
 use Rattle.std.proofs.Common.{◌≡◌, ℕ, List, [], ◌∷◌, ◌<◌, ◌*◌, ◌^◌, refl, sym, ap, w64, MutBor, slice_set, slice_get, length, Option}
 use Rattle.std.proofs.raw_atomic.Walks.{proved}
 use base.Logic.{id⊢}

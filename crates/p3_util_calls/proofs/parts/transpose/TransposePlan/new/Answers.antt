@@ -1,5 +1,4 @@
-use Rattle.std.proofs.Common.{◌≡◌, ℕ, ◌*◌, arith}
-use Rattle.std.proofs.Math.Nat.{mul-pos}
+use Rattle.std.proofs.Common.{◌≡◌, ℕ, ◌*◌, mul-pos, arith}
 use Rattle.p3_util_calls.proofs.CutParts.{parts-within}
 use Rattle.p3_util_calls.proofs.parts.transpose.TransposePlan.new.Goals as goal
 use Rattle.p3_util_calls.proofs.parts.transpose.TransposePlan.new.Goals.{then-height-eq0, else-height-eq0+then-by_rows, else-height-eq0+else-by_rows}

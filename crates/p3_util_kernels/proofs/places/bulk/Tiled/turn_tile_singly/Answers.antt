@@ -1,5 +1,4 @@
--- Each turn of the inner loop exchanges one more item of a row, and each turn of the outer loop one
--- more row.
+-- Each turn of the inner loop exchanges one more item of a row, and each turn of the outer loop one more row.
 use Rattle.std.proofs.Common.{◌≡◌, ◌+◌, ◌-◌, ◌*◌, suc, refl, arith}
 use Rattle.p3_util_kernels.proofs.PlacesLemmas.Tiles.{TileTurned-more, TileTurned-row}
 use Rattle.p3_util_kernels.proofs.GridLemmas.Pairs.{square_swaps-next}

@@ -1,5 +1,4 @@
--- Each turn of the loop adds one more group of items to the column. After the loop the rest of the
--- column is added.
+-- Each turn of the loop adds one more group of items to the column. After the loop the rest of the column is added.
 use Rattle.std.proofs.Common.{◌≡◌, ◌+◌, ◌-◌, ◌*◌, ◌/◌, arith}
 use Rattle.p3_util_kernels.proofs.TransposeLemmas.Columns.{HoldsColumn-some, IsColumnPut-more}
 use Rattle.p3_util_kernels.specs.declared.transpose.ways.TheConstants.{COLUMN_ITEMS}
