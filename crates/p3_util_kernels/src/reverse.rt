@@ -109,7 +109,6 @@ pub fn reverse_index_bits_on<S: Places>(m: &mut Swaps<S>)
 ///
 /// Each pair of items whose indices are each other's reverse is swapped once. The length must be
 /// zero or a power of two, which `fits_rows(m.len(), 1)` checks.
-#[tactic(auto, using(crate::proofs::ReverseLemmas::SwapCounts::short_bound, crate::proofs::ReverseLemmas::Reversal::reversed_place))]
 pub fn reverse_index_bits_short<S: Places>(m: &mut Swaps<S>)
     requires { IsReversible (length (S.items m.old.holder)) }
     ensures order { IsReversal (S.items m.old.holder) (S.items m.new.holder) }
@@ -130,7 +129,6 @@ pub fn reverse_index_bits_short<S: Places>(m: &mut Swaps<S>)
 /// A list of n items takes at most 3n/2 swaps. [`reverse_index_bits_short`] takes at most n/2, but
 /// the order of the swaps here suits lists that do not fit in a cache. The length must be at least
 /// 4, and a power of two, which std's `is_power_of_two` checks.
-#[tactic(auto, using(crate::proofs::ReverseLemmas::SwapCounts::long_bound, crate::proofs::ReverseLemmas::Reversal::reversed_place))]
 pub fn reverse_index_bits_long<S: Places>(m: &mut Swaps<S>)
     requires fits { IsReversible (length (S.items m.old.holder)) }
     requires not_short { 4 ≤ length (S.items m.old.holder) }
@@ -151,7 +149,6 @@ pub fn reverse_index_bits_long<S: Places>(m: &mut Swaps<S>)
 /// Each row has `row_width` items. With 2^k rows, the row at index `r` comes from the index that
 /// has the k bits of `r` in reversed order. The number of rows must be zero or a power of two,
 /// which [`fits_rows`] checks.
-#[tactic(auto, using(crate::proofs::ReverseLemmas::SwapCounts::rows_bound))]
 pub fn reverse_row_index_bits_on<S: Places>(m: &mut Swaps<S>, row_width: usize)
     requires { FitsRows (length (S.items m.old.holder)) row_width }
     ensures order { IsRowReversal row_width (S.items m.old.holder) (S.items m.new.holder) }
@@ -175,7 +172,6 @@ pub fn reverse_row_index_bits_on<S: Places>(m: &mut Swaps<S>, row_width: usize)
 /// the h bits of x in reversed order. A list of n items takes at most n/2 swaps. The length must be
 /// `2^(h + c)`. To check the length, compare it with the power that
 /// [`checked_log_size_sum`](crate::bits::checked_log_size_sum) returns for the two exponents.
-#[tactic(auto, using(crate::proofs::ReverseLemmas::SwapCounts::chunks_bound))]
 pub fn reverse_chunks_on<S: Places>(m: &mut Swaps<S>, lb_num_chunks: usize, lb_chunk_size: usize)
     requires { length (S.items m.old.holder) ≡ 2 ^ (lb_num_chunks + lb_chunk_size) }
     ensures order { IsRowReversal (2 ^ lb_chunk_size) (S.items m.old.holder)

@@ -89,7 +89,6 @@ impl RowDigits {
 }
 
 /// The kernel of [`reverse_index_bits_short`](crate::reverse::reverse_index_bits_short).
-#[tactic(auto, using(crate::proofs::ReverseLemmas::Lengths::rows_of_one))]
 #[inline(always)]
 #[doc(hidden)]
 pub fn reverse_short<M: Tiled>(m: M) -> M

@@ -7,6 +7,12 @@ pub loop-col-init : goal.loop-col-init
 loop-col-init g c = let none : c.args.block.rows * 0 ≡ 0 = omega arith in
     record { same_length = refl; places = λ r d hr h. absurd (omega (arith, h, none)); others = λ p out. refl }
 
+pub overflow_mul-at : goal.overflow_mul-at
+overflow_mul-at g c = omega (arith, c.requires.fits.room 0 c.loop-col.col c.requires.some c.loop-col-test.true, c.loop-col.invariant.same_length)
+
+pub overflow_add-at : goal.overflow_add-at
+overflow_add-at g c = omega (arith, c.requires.fits.room 0 c.loop-col.col c.requires.some c.loop-col-test.true, c.loop-col.invariant.same_length)
+
 pub overflow_add-at-in-loop-col : goal.overflow_add-at-in-loop-col
 overflow_add-at-in-loop-col g c = omega (arith, c.requires.count, c.requires.fits.room (c.args.block.rows - 1) c.loop-col.col (omega (arith, c.requires.some)) c.loop-col-test.true, c.loop-col.invariant.same_length)
 

@@ -20,6 +20,12 @@ overflow_add-from g c = omega (arith, c.requires.inside c.loop-r.r c.loop-c.c (o
 pub overflow_add-from-in-loop-r : goal.overflow_add-from-in-loop-r
 overflow_add-from-in-loop-r g c = omega (arith, c.requires.inside c.loop-r.r c.loop-c.c (omega arith) (omega arith))
 
+pub overflow_add-to : goal.overflow_add-to
+overflow_add-to g c = omega (arith, c.requires.room c.loop-r.r c.loop-c.c (omega arith) (omega arith), c.loop-r.invariant.put.same_length)
+
+pub overflow_add-to-in-loop-r : goal.overflow_add-to-in-loop-r
+overflow_add-to-in-loop-r g c = omega (arith, c.requires.room c.loop-r.r c.loop-c.c (omega arith) (omega arith), c.loop-r.invariant.put.same_length)
+
 pub at-requires : goal.at-requires
 at-requires g c = c.requires.inside c.loop-r.r c.loop-c.c (omega arith) (omega arith)
 

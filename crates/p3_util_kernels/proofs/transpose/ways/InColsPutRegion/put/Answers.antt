@@ -1,5 +1,6 @@
 -- Each turn of the loop puts one more part. Then follow the columns that remain.
-use Rattle.std.proofs.Common.{◌≡◌, ◌+◌, ◌-◌, ◌*◌, ◌/◌, ◌≤◌, inr, div-mul-le_self, arith}
+use Rattle.std.proofs.Common.{rules, ◌≡◌, ◌+◌, ◌-◌, ◌*◌, ◌/◌, ◌≤◌, inr, arith}
+use Rattle.std.proofs.Math.Nat.{div-mul-le_self}
 use Rattle.p3_util_kernels.specs.Region.{rows_of}
 use Rattle.p3_util_kernels.proofs.TransposeLemmas.Region.{IsCut-cols, IsRegionTransposed-cols, nothing_put, part_inside}
 use Rattle.p3_util_kernels.proofs.transpose.ways.InColsPutRegion.put.Goals as goal
@@ -60,3 +61,9 @@ returns-clause-transposed g c =
     let end : c.args.region.col_start + c.loop-part.part * c.max-cols.result ≡ c.args.region.col_end =
     rw done (omega (arith, c.cols.ensures, div-mul-le_self c.cols.result c.max-cols.result)) in
     rw end at c.loop-part.invariant.transposed
+
+pub put-out-requires : goal.put-out-requires
+put-out-requires g c = search rules
+
+pub put-requires : goal.put-requires
+put-requires g c = search rules
