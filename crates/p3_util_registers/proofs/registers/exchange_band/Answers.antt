@@ -15,3 +15,6 @@ returns-clause-exchanged g c =
     RowsExchanged-band _ _ _ c.requires.tiles g.D.Register.SIDE _ (replicate 8 c.args.row) _ _ (items_of_four g.D.Register.items c.load_columns-to_x.result) (items_of_four g.D.Register.items c.load_columns-to_y.result)
     _ _ _ c.requires.some_side c.requires.below (λ j h. get_or-replicate 8 j c.args.row 0 h) (λ k h. rw (get_or-replicate 8 k c.args.row 0 h) ((rw c.SIDE.ensures at c.in_band-in_x.ensures) k h)) (λ k h. rw (get_or-replicate 8 k c.args.row 0 h) (c.in_column-in_y.ensures k h))
     c.load_columns-to_y.ensures c.load_columns-to_x.ensures c.store.ensures.stored c.store-2.ensures.stored
+
+pub returns-clause-holder : goal.returns-clause-holder
+returns-clause-holder g c = g.met.M.Runs.same_holder_trans _ _ _ _ _ _ c.store.ensures.holder c.store-2.ensures.holder (omega arith)

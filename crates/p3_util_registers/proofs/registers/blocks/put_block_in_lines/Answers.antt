@@ -3,6 +3,15 @@ use Rattle.std.proofs.Common.{inl, inr, refl, arith}
 use Rattle.p3_util_registers.proofs.RegistersBlocks.{run_inside}
 use Rattle.p3_util_registers.proofs.registers.blocks.put_block_in_lines.Goals as goal
 
+pub is_of_lines-requires-clause-inside : goal.is_of_lines-requires-clause-inside
+is_of_lines-requires-clause-inside g c = rw c.len-len.ensures c.requires.fits.inside
+
+pub may_stream_lines-requires-clause-room : goal.may_stream_lines-requires-clause-room
+may_stream_lines-requires-clause-room g c = rw g.met.M.RunsOfCells.same_items c.requires.fits.room
+
+pub put_by_lines-requires-clause-block : goal.put_by_lines-requires-clause-block
+put_by_lines-requires-clause-block g c = rw (c.requires.same, g.met.M.RunsOfCells.same_items) c.requires.fits
+
 pub put_by_lines-requires-clause-reads : goal.put_by_lines-requires-clause-reads
 put_by_lines-requires-clause-reads g c = λ r col hr hc.
     c.requires.reads _

@@ -3,14 +3,17 @@ use Rattle.std.proofs.Common.{◌≡◌, ◌+◌, ◌*◌, inr, refl, arith}
 use Rattle.p3_util_registers.proofs.RegistersLines.{ColumnsPut-line, column_of_two, of_pair}
 use Rattle.p3_util_registers.proofs.registers.line_blocks.put_four.Goals as goal
 
-pub load_two-a-requires : goal.load_two-a-requires
-load_two-a-requires g c = record { first = grind (arith, c.requires.reads 0 c.args.col (omega arith) (inr (omega arith))); second = grind (arith, c.requires.reads 1 c.args.col (omega arith) (inr (omega arith))) }
+pub load_two-a-requires-clause-first : goal.load_two-a-requires-clause-first
+load_two-a-requires-clause-first g c = grind (arith, c.requires.reads 0 c.args.col (omega (arith, c.requires.lines)) (inr (omega (arith, c.requires.side, c.requires.below))))
 
-pub load_two-b-requires : goal.load_two-b-requires
-load_two-b-requires g c = record { first = grind (arith, c.requires.reads 2 c.args.col (omega arith) (inr (omega arith))); second = grind (arith, c.requires.reads 3 c.args.col (omega arith) (inr (omega arith))) }
+pub load_two-a-requires-clause-second : goal.load_two-a-requires-clause-second
+load_two-a-requires-clause-second g c = grind (arith, c.requires.reads 1 c.args.col (omega (arith, c.requires.lines)) (inr (omega (arith, c.requires.side, c.requires.below))))
 
-pub put_line-requires : goal.put_line-requires
-put_line-requires g c = record { some_side = omega arith; line = omega arith; room = λ r h. c.requires.block.room r _ h c.requires.below; len_fits = c.requires.cells_len_fits; reached = λ k h. c.requires.writes _ k c.requires.below h }
+pub load_two-b-requires-clause-first : goal.load_two-b-requires-clause-first
+load_two-b-requires-clause-first g c = grind (arith, c.requires.reads 2 c.args.col (omega (arith, c.requires.lines)) (inr (omega (arith, c.requires.side, c.requires.below))))
+
+pub load_two-b-requires-clause-second : goal.load_two-b-requires-clause-second
+load_two-b-requires-clause-second g c = grind (arith, c.requires.reads 3 c.args.col (omega (arith, c.requires.lines)) (inr (omega (arith, c.requires.side, c.requires.below))))
 
 pub returns-clause-put : goal.returns-clause-put
 returns-clause-put g c =
@@ -24,3 +27,15 @@ returns-clause-put g c =
     let at : from + 2 * width + r * width ≡ from + (2 + r) * width = omega arith in
     rw at at (of_pair (from + 2 * width) (from + 3 * width) width _ _ (omega arith) (rw one at c.load_two-b.ensures) r h))
     r (omega (arith, c.requires.lines, h)))
+
+pub overflow_add-from : goal.overflow_add-from
+overflow_add-from g c = omega (arith, c.requires.source_len_fits, c.requires.block.inside 3 c.args.col (omega arith) c.requires.below)
+
+pub overflow_add-from-2 : goal.overflow_add-from-2
+overflow_add-from-2 g c = omega (arith, c.requires.source_len_fits, c.requires.block.inside 3 c.args.col (omega arith) c.requires.below)
+
+pub overflow_add-from-3 : goal.overflow_add-from-3
+overflow_add-from-3 g c = omega (arith, c.requires.source_len_fits, c.requires.block.inside 3 c.args.col (omega arith) c.requires.below)
+
+pub overflow_add-from-4 : goal.overflow_add-from-4
+overflow_add-from-4 g c = omega (arith, c.requires.source_len_fits, c.requires.block.inside 3 c.args.col (omega arith) c.requires.below)

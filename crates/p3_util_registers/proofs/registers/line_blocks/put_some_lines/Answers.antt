@@ -1,15 +1,23 @@
 -- The columns that are in registers are put from the first to the last.
-use Rattle.std.proofs.Common.{◌≡◌, ◌+◌, ◌-◌, ◌<◌, ◌≤◌, inr, refl, arith}
+use Rattle.std.proofs.Common.{◌≡◌, ◌+◌, ◌-◌, ◌≤◌, inr, refl, arith}
 use Rattle.p3_util_registers.specs.Registers.{items_of_four}
 use Rattle.p3_util_registers.proofs.RegistersBlocks.{ColumnsPut-joined}
 use Rattle.p3_util_registers.proofs.RegistersLines.{ColumnsPut-of_8, ColumnsPut-of_16}
 use Rattle.p3_util_registers.proofs.RegistersSteps.{four_times}
 use Rattle.p3_util_registers.proofs.registers.line_blocks.put_some_lines.Goals as goal
 
-pub load_lines-top-requires : goal.load_lines-top-requires
-load_lines-top-requires g c =
+pub load_lines-top-requires-clause-inside : goal.load_lines-top-requires-clause-inside
+load_lines-top-requires-clause-inside g c r h =
     let at_least : 2 ≤ g.D.Register.SIDE = grind (arith, c.requires.some_side) in
-    record { side = c.requires.some_side; inside = λ r h. omega (arith, c.requires.block.inside r (c.args.col + g.D.Register.SIDE - 1) (omega arith) (omega arith)); len_fits = c.requires.source_len_fits; reached = λ r h. grind (arith, c.requires.reads r c.args.col (omega arith) (inr c.requires.below)) }
+    omega (arith, at_least, c.requires.block.inside r (c.args.col + g.D.Register.SIDE - 1) (omega (arith, c.requires.lines, at_least)) (omega (arith, c.requires.below, at_least)))
+
+pub load_lines-top-requires-clause-reached : goal.load_lines-top-requires-clause-reached
+load_lines-top-requires-clause-reached g c r h =
+    let at_least : 2 ≤ g.D.Register.SIDE = grind (arith, c.requires.some_side) in
+    grind (arith, c.requires.reads r c.args.col (omega (arith, c.requires.lines, at_least)) (inr c.requires.below))
+
+pub overflow_add-from : goal.overflow_add-from
+overflow_add-from g c = grind (arith, c.requires.some_side, c.requires.block.inside 0 c.args.col)
 
 pub overflow_mul-block : goal.overflow_mul-block
 overflow_mul-block g c =
@@ -21,64 +29,30 @@ overflow_add-from-2 g c =
     let half : g.D.Register.SIDE ≡ 4 = grind (arith, c.requires.some_side, c.SIDE-side.ensures, c.if-side-eq2.false) in
     omega (arith, c.requires.source_len_fits, c.requires.block.inside 8 c.args.col (omega (arith, half, c.requires.lines)) (omega (arith, half, c.requires.below)))
 
-pub load_lines-bottom-requires : goal.load_lines-bottom-requires
-load_lines-bottom-requires g c =
+pub load_lines-bottom-requires-clause-inside : goal.load_lines-bottom-requires-clause-inside
+load_lines-bottom-requires-clause-inside g c r h =
     let half : g.D.Register.SIDE ≡ 4 = grind (arith, c.requires.some_side, c.SIDE-side.ensures, c.if-side-eq2.false) in
-    record { side = c.requires.some_side; inside = λ r h. omega (arith, c.requires.block.inside (8 + r) (c.args.col + 3) (omega arith) (omega arith)); len_fits = c.requires.source_len_fits; reached = λ r h. grind (arith, c.requires.reads (8 + r) c.args.col (omega arith) (inr c.requires.below)) }
+    omega (arith, half, c.requires.block.inside (8 + r) (c.args.col + 3) (omega (arith, half, c.requires.lines)) (omega (arith, half, c.requires.below)))
 
-pub put_line-requires : goal.put_line-requires
-put_line-requires g c =
-    let at : c.args.col < c.args.block.cols = grind (arith, c.requires.below, c.requires.some_side) in
-    record { some_side = grind (arith, c.requires.some_side); line = c.requires.lines; room = λ r h. c.requires.block.room r _ h at; len_fits = c.requires.cells_len_fits; reached = λ k h. c.requires.writes _ k at h }
+pub load_lines-bottom-requires-clause-reached : goal.load_lines-bottom-requires-clause-reached
+load_lines-bottom-requires-clause-reached g c r h =
+    let half : g.D.Register.SIDE ≡ 4 = grind (arith, c.requires.some_side, c.SIDE-side.ensures, c.if-side-eq2.false) in
+    grind (arith, c.requires.reads (8 + r) c.args.col (omega (arith, half, c.requires.lines)) (inr c.requires.below))
 
-pub put_line-requires-then-side-eq2 : goal.put_line-requires-then-side-eq2
-put_line-requires-then-side-eq2 g c =
-    let at : c.args.col + 1 < c.args.block.cols = grind (arith, c.requires.below, c.requires.some_side) in
-    record {
-      some_side = grind (arith, c.requires.some_side);
-      line = c.requires.lines;
-      room = λ r h. omega (arith, c.requires.block.room r _ h at, c.put_line.ensures.stored.same_length);
-      len_fits = omega (arith, c.requires.cells_len_fits, c.put_line.ensures.stored.same_length);
-      reached = λ k h. rw c.put_line.ensures.reach (c.requires.writes _ k at h);
-    }
+pub put_line-requires-then-side-eq2-clause-room : goal.put_line-requires-then-side-eq2-clause-room
+put_line-requires-then-side-eq2-clause-room g c r h = omega (arith, c.requires.block.room r (c.args.col + 1) h (grind (arith, c.requires.below, c.requires.some_side)), c.put_line.ensures.stored.same_length)
 
-pub put_line-requires-2 : goal.put_line-requires-2
-put_line-requires-2 g c =
-    let at : c.args.col < c.args.block.cols = grind (arith, c.requires.below, c.requires.some_side, c.SIDE-side.ensures, c.if-side-eq2.false) in
-    record { some_side = grind (arith, c.requires.some_side); line = c.requires.lines; room = λ r h. c.requires.block.room r _ h at; len_fits = c.requires.cells_len_fits; reached = λ k h. c.requires.writes _ k at h }
+pub put_line-requires-2-clause-room : goal.put_line-requires-2-clause-room
+put_line-requires-2-clause-room g c r h = omega (arith, c.requires.block.room r (c.args.col) h (grind (arith, c.requires.below, c.requires.some_side, c.SIDE-side.ensures, c.if-side-eq2.false)))
 
-pub put_line-requires-3 : goal.put_line-requires-3
-put_line-requires-3 g c =
-    let at : c.args.col + 1 < c.args.block.cols = grind (arith, c.requires.below, c.requires.some_side, c.SIDE-side.ensures, c.if-side-eq2.false) in
-    record {
-      some_side = grind (arith, c.requires.some_side);
-      line = c.requires.lines;
-      room = λ r h. omega (arith, c.requires.block.room r _ h at, c.put_line-2.ensures.stored.same_length);
-      len_fits = omega (arith, c.requires.cells_len_fits, c.put_line-2.ensures.stored.same_length);
-      reached = λ k h. rw c.put_line-2.ensures.reach (c.requires.writes _ k at h);
-    }
+pub put_line-requires-3-clause-room : goal.put_line-requires-3-clause-room
+put_line-requires-3-clause-room g c r h = omega (arith, c.requires.block.room r (c.args.col + 1) h (grind (arith, c.requires.below, c.requires.some_side, c.SIDE-side.ensures, c.if-side-eq2.false)), c.put_line-2.ensures.stored.same_length)
 
-pub put_line-requires-4 : goal.put_line-requires-4
-put_line-requires-4 g c =
-    let at : c.args.col + 2 < c.args.block.cols = grind (arith, c.requires.below, c.requires.some_side, c.SIDE-side.ensures, c.if-side-eq2.false) in
-    record {
-      some_side = grind (arith, c.requires.some_side);
-      line = c.requires.lines;
-      room = λ r h. omega (arith, c.requires.block.room r _ h at, c.put_line-2.ensures.stored.same_length, c.put_line-3.ensures.stored.same_length);
-      len_fits = omega (arith, c.requires.cells_len_fits, c.put_line-2.ensures.stored.same_length, c.put_line-3.ensures.stored.same_length);
-      reached = λ k h. rw (c.put_line-3.ensures.reach, c.put_line-2.ensures.reach) (c.requires.writes _ k at h);
-    }
+pub put_line-requires-4-clause-room : goal.put_line-requires-4-clause-room
+put_line-requires-4-clause-room g c r h = omega (arith, c.requires.block.room r (c.args.col + 2) h (grind (arith, c.requires.below, c.requires.some_side, c.SIDE-side.ensures, c.if-side-eq2.false)), c.put_line-2.ensures.stored.same_length, c.put_line-3.ensures.stored.same_length)
 
-pub put_line-requires-5 : goal.put_line-requires-5
-put_line-requires-5 g c =
-    let at : c.args.col + 3 < c.args.block.cols = grind (arith, c.requires.below, c.requires.some_side, c.SIDE-side.ensures, c.if-side-eq2.false) in
-    record {
-      some_side = grind (arith, c.requires.some_side);
-      line = c.requires.lines;
-      room = λ r h. omega (arith, c.requires.block.room r _ h at, c.put_line-2.ensures.stored.same_length, c.put_line-3.ensures.stored.same_length, c.put_line-4.ensures.stored.same_length);
-      len_fits = omega (arith, c.requires.cells_len_fits, c.put_line-2.ensures.stored.same_length, c.put_line-3.ensures.stored.same_length, c.put_line-4.ensures.stored.same_length);
-      reached = λ k h. rw (c.put_line-4.ensures.reach, c.put_line-3.ensures.reach, c.put_line-2.ensures.reach) (c.requires.writes _ k at h);
-    }
+pub put_line-requires-5-clause-room : goal.put_line-requires-5-clause-room
+put_line-requires-5-clause-room g c r h = omega (arith, c.requires.block.room r (c.args.col + 3) h (grind (arith, c.requires.below, c.requires.some_side, c.SIDE-side.ensures, c.if-side-eq2.false)), c.put_line-2.ensures.stored.same_length, c.put_line-3.ensures.stored.same_length, c.put_line-4.ensures.stored.same_length)
 
 pub returns-then-side-eq2-clause-put : goal.returns-then-side-eq2-clause-put
 returns-then-side-eq2-clause-put g c =
