@@ -48,7 +48,7 @@ fn bytes_of_place<I: Instances>(size: usize, row: usize) -> usize
 
 /// How many bytes a place has in the reversal of a list of `len` items of `size` bytes, `row_width` in each row, and the plan for
 /// the list of these places.
-#[tactic(auto, using(crate::proofs::RowBytes::row_fits, crate::proofs::RowBytes::rows_of_places, crate::proofs::RowBytes::no_rows, crate::proofs::RowBytes::no_bytes, crate::proofs::RowBytes::list_whole, crate::proofs::RowBytes::places_whole))]
+#[tactic(auto, using(crate::proofs::RowBytes::no_rows, crate::proofs::RowBytes::no_bytes, crate::proofs::RowBytes::list_whole, crate::proofs::RowBytes::places_whole))]
 pub(crate) fn plan_in_bytes<I: Instances>(
     len: usize,
     size: usize,

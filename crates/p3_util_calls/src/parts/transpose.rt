@@ -97,7 +97,6 @@ impl TransposePlan {
 
     /// The number of items of the first region, or 0 if there is none. If the columns are cut, each region fills so many cells,
     /// and the last one may fill fewer. They are next to each other, and right after those of the region before it.
-    #[tactic(auto, using(crate::proofs::CutParts::runs_start))]
     pub(crate) fn cells_of_region(self) -> usize
         ensures starts { self.by_rows ≡ false → (k : ℕ) → k < parts_in self.cut.len self.cut.part_len
             → start_of self.cut.len self.cut.part_len k * self.height ≡ k * result }

@@ -1,4 +1,5 @@
 -- The loop that fills a chunk, and the progress of a call that returned a chunk: by the lemmas on `Fills`.
+use Rattle.std.proofs.lemmas.Grind.{common_steps}
 use Rattle.std.proofs.Common.{◌<◌, refl, arith}
 use Rattle.p3_util.proofs.FilledChunk.{Fills-push, Fills-full, Fills-short, Fills-full_progress, Fills-last_progress}
 use Rattle.p3_util.proofs.chunks.ArrayChunksPaddedIterator.next.Goals.{else-loop-len-test, then-loop-len-test+in_default}
@@ -25,3 +26,6 @@ returns-else-len-eq0-clause-goes g c =
       | else-loop-len-test w ↦ rw w.self-is (Fills-full_progress g.I.Iterator.can_next g.I.Iterator.remaining h.0 c.if-self.false h.2 more w.loop-len-test.false)
       | then-loop-len-test+in_default w ↦ rw w.self-is (Fills-last_progress g.I.Iterator.can_next g.I.Iterator.remaining h.0 c.if-self.false refl more some)
     ]
+
+pub loop-len-init : goal.loop-len-init
+loop-len-init g c = grind (arith, common_steps)

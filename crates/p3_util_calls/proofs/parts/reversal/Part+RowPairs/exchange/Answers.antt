@@ -1,4 +1,5 @@
 -- A patch is a region of the grid of its rows.
+use Rattle.std.proofs.lemmas.Grind.{common_steps}
 use Rattle.std.proofs.Common.{◌≡◌, ℕ, ◌+◌, ◌-◌, ◌/◌, ◌%◌, ◌^◌, ◌<◌, ◌≤◌, refl, arith}
 use Rattle.p3_util_kernels.specs.declared.transpose.regions.Region.{Region}
 use Rattle.p3_util_calls.specs.Patches.{IsPatch}
@@ -33,3 +34,6 @@ exchange_region-requires-clause-ready g c =
 
 pub exchange_region-requires-clause-above : goal.exchange_region-requires-clause-above
 exchange_region-requires-clause-above g c = patch-above _ _ _ _ _ c.args.self.plan.cut.some_part_len c.patch-middle.ensures c.if-region.false
+
+pub returns-then-region : goal.returns-then-region
+returns-then-region g c = grind (arith, common_steps)
