@@ -3,8 +3,8 @@
 use Rattle.std.specs.Prelude.{ℕ, ◌+◌, ◌-◌, ◌*◌, ◌/◌, ◌^◌, nat_le, if◌then◌else◌}
 use Rattle.p3_util_kernels.specs.Logarithms.{clog}
 
--- the number of pairs of different k-bit numbers that are each other's reverse. Of the `2 ^ k` numbers, `2 ^ ceil(k /
--- 2)` are their own reverse, so there are `(2 ^ k - 2 ^ ceil(k / 2)) / 2` pairs
+-- the number of pairs of different k-bit numbers that are each other's reverse. Of the `2 ^ k` numbers,
+-- `2 ^ ceil(k / 2)` are their own reverse, so there are `(2 ^ k - 2 ^ ceil(k / 2)) / 2` pairs
 abbrev pub short_swaps : ℕ → ℕ
 short_swaps k = (2 ^ k - 2 ^ ((k + 1) / 2)) / 2
 

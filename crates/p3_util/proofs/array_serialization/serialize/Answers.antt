@@ -1,6 +1,6 @@
 -- What was written reads back, by the lemma on an array whose items are all read.
-use Rattle.std.proofs.lemmas.Grind.{common_steps}
 use Rattle.std.proofs.Common.{length, map, take, ap, ◌∙◌, arith}
+use Rattle.std.proofs.lemmas.Grind.{common_steps}
 use Rattle.std.proofs.lemmas.List.{length-map, take_all}
 use Rattle.serde_json.specs.View.{view}
 use Rattle.p3_util.proofs.JsonLists.{IsSameOrMemory-from_array}

@@ -1,6 +1,6 @@
 -- The loop that fills a chunk, and the progress of a call that returned a chunk: by the lemmas on `Fills`.
-use Rattle.std.proofs.lemmas.Grind.{common_steps}
 use Rattle.std.proofs.Common.{◌<◌, refl, arith}
+use Rattle.std.proofs.lemmas.Grind.{common_steps}
 use Rattle.p3_util.proofs.FilledChunk.{Fills-push, Fills-full, Fills-short, Fills-full_progress, Fills-last_progress}
 use Rattle.p3_util.proofs.chunks.ArrayChunksPaddedIterator.next.Goals.{else-loop-len-test, then-loop-len-test+in_default}
 use Rattle.p3_util.proofs.chunks.ArrayChunksPaddedIterator.next.Goals as goal

@@ -1,6 +1,6 @@
 -- The row of an item is one of the rows, and begins at the place that the code computes.
-use Rattle.std.proofs.lemmas.Grind.{common_steps}
 use Rattle.std.proofs.Common.{ℕ, zero, suc, ◌*◌, ◌/◌, ◌<◌, ◌≡◌, ◌∙◌, ap, length, sym, div-lt_iff_lt-mul, length-take-le, arith}
+use Rattle.std.proofs.lemmas.Grind.{common_steps}
 use Rattle.std.proofs.lemmas.Nat.{div-add-mod', mod_below}
 use Rattle.p3_util.proofs.views.places.place_of.Goals as goal
 

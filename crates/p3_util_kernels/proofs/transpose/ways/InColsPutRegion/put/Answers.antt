@@ -1,6 +1,5 @@
 -- Each turn of the loop puts one more part. Then follow the columns that remain.
-use Rattle.std.proofs.Common.{rules, ◌≡◌, ◌+◌, ◌-◌, ◌*◌, ◌/◌, ◌≤◌, inr, arith}
-use Rattle.std.proofs.Math.Nat.{div-mul-le_self}
+use Rattle.std.proofs.Common.{rules, ◌≡◌, ◌+◌, ◌-◌, ◌*◌, ◌/◌, ◌≤◌, inr, div-mul-le_self, arith}
 use Rattle.p3_util_kernels.specs.Region.{rows_of}
 use Rattle.p3_util_kernels.proofs.TransposeLemmas.Region.{IsCut-cols, IsRegionTransposed-cols, nothing_put, part_inside}
 use Rattle.p3_util_kernels.proofs.transpose.ways.InColsPutRegion.put.Goals as goal
