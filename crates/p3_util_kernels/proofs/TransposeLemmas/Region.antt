@@ -97,6 +97,3 @@ module _ {A : Type 0} (region : Region) (width height : ℕ) (input old new : Li
       let below : b < height = omega (arith, within.row_to, rows) in
       let same : (x ≡ a) × (y ≡ b) = same_from_place x y a b height h below e in
       grind (arith, same, within, out))
-
--- the two ways to cut a region
-pub ruleset cuts = (IsCut-rows, IsCut-cols)

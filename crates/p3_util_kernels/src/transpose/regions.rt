@@ -127,7 +127,6 @@ impl Region {
 
     /// Cuts the region above row `middle` of the matrix. Returns the upper part, which ends before
     /// that row, and the lower part, which begins with it.
-    #[tactic(auto, using(crate::proofs::TransposeLemmas::Region::cuts))]
     #[inline(always)]
     pub(crate) fn cut_rows(self, middle: usize) -> (Region, Region)
         requires from { self.row_start ≤ middle }
@@ -142,7 +141,6 @@ impl Region {
 
     /// Cuts the region to the left of column `middle` of the matrix. Returns the left part, which
     /// ends before that column, and the right part, which begins with it.
-    #[tactic(auto, using(crate::proofs::TransposeLemmas::Region::cuts))]
     #[inline(always)]
     pub(crate) fn cut_cols(self, middle: usize) -> (Region, Region)
         requires from { self.col_start ≤ middle }

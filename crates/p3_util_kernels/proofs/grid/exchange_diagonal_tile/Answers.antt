@@ -1,12 +1,19 @@
 -- Each turn of the inner loop exchanges one more place of a row to the right of the diagonal, and each
 -- turn of the outer loop one more row.
 use Rattle.std.proofs.Common.{◌≡◌, ◌+◌, ◌-◌, ◌*◌, ◌∙◌, slice_index, suc, refl, arith}
+use Rattle.std.proofs.lemmas.Grind.{common_steps}
 use Rattle.p3_util_kernels.specs.declared.transpose.regions.Region.{Region}
 use Rattle.p3_util_kernels.specs.Grid.{row_place}
 use Rattle.p3_util_kernels.specs.SwapCounts.{square_swaps}
 use Rattle.p3_util_kernels.proofs.GridLemmas.Parts.{IsTile-grid, SwapsInGrid-corner, SwapsInGrid-item, SwapsInGrid-none, SwapsInGrid-turned, grid_fits, grid_room, one_place}
 use Rattle.p3_util_kernels.proofs.GridLemmas.Pairs.{square_swaps-next}
 use Rattle.p3_util_kernels.proofs.grid.exchange_diagonal_tile.Goals as goal
+
+pub overflow_add-start : goal.overflow_add-start
+overflow_add-start g c = grind (arith, common_steps)
+
+pub tile_rows-places-requires-clause-fits : goal.tile_rows-places-requires-clause-fits
+tile_rows-places-requires-clause-fits g c = grind (arith, common_steps)
 
 -- single items
 pub turn_tile-requires : goal.turn_tile-requires
