@@ -1,0 +1,7 @@
+-- Each of the four registers holds the items of two others, interleaved.
+use Rattle.std.proofs.Common.{arith}
+use Rattle.std.proofs.lemmas.Grind.{common_steps}
+use Rattle.p3_util_registers.proofs.registers.next_stage.Goals as goal
+
+pub returns : goal.returns
+returns g c = grind (arith, common_steps)
