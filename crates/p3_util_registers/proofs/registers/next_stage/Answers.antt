@@ -1,4 +1,4 @@
--- Each of the four registers holds the items of two others, interleaved.
+-- Each new register interleaves the first or the second halves of two old ones.
 use Rattle.std.proofs.Common.{arith}
 use Rattle.std.proofs.lemmas.Grind.{common_steps}
 use Rattle.p3_util_registers.proofs.registers.next_stage.Goals as goal
