@@ -11,7 +11,7 @@ use p3_util::{
 
 #[test]
 fn logarithms_and_powers(rt: HostRuntime) {
-    for (n, ceil, floor) in LOGARITHMS {
+    for &(n, ceil, floor) in &LOGARITHMS {
         same(&rt, n, &log2_ceil_usize(n), &ceil);
         same(&rt, n, &log2_floor_usize(n), &floor);
         same(&rt, n, &log2_ceil_u64(n as u64), &(ceil as u64));
@@ -27,20 +27,20 @@ fn logarithms_and_powers(rt: HostRuntime) {
         power = power.wrapping_mul(3);
     }
     assert!(rt; is_power_of_three(243) && is_power_of_three(12_157_665_459_056_928_801));
-    for n in [0, 2, 4, 6, 9_223_372_036_854_775_808, usize::MAX] {
+    for &n in &[0, 2, 4, 6, 9_223_372_036_854_775_808, usize::MAX] {
         same(&rt, n, &is_power_of_three(n), &false);
     }
-    for (exponent, power) in POWERS {
+    for &(exponent, power) in &POWERS {
         same(&rt, exponent, &checked_pow2(exponent), &power);
     }
-    for (a, b, sum) in SUMS {
+    for &(a, b, sum) in &SUMS {
         same(&rt, a, &checked_log_size_sum(a, b), &sum);
     }
 }
 
 #[test]
 fn digits_and_names(rt: HostRuntime) {
-    for (x, bit_len, reversed) in REVERSED_DIGITS {
+    for &(x, bit_len, reversed) in &REVERSED_DIGITS {
         assert!(rt; bit_len <= 64);
         same(&rt, x, &reverse_bits_len(x, bit_len), &reversed);
         if bit_len < 64 {

@@ -34,7 +34,7 @@ fn check_shapes<T: Item>(rt: &impl Abort, alloc: Global) {
         check_shape(rt, &input, &mut output, len, 1);
         check_shape(rt, &input, &mut output, 1, len);
     }
-    for (width, height, _) in TRANSPOSES {
+    for &(width, height, _) in &TRANSPOSES {
         check_shape(rt, &input, &mut output, width, height);
     }
 }

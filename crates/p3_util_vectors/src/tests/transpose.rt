@@ -43,7 +43,7 @@ const EXAMPLES: [(usize, usize, &[u64], &[u64]); 3] = [
 /// slices.
 #[test]
 fn worked_examples(rt: HostRuntime) {
-    for (width, height, input, wanted) in EXAMPLES {
+    for &(width, height, input, wanted) in &EXAMPLES {
         let shape = Shape { width, height };
         for call in [
             Put::On,
@@ -76,7 +76,7 @@ const NUMBERED: [(usize, usize, u128, &[(usize, u64)]); 7] = [
 /// With the hashes of the original's transposes, by both calls.
 #[test]
 fn numbered_items(rt: HostRuntime) {
-    for (width, height, wanted) in TRANSPOSES {
+    for &(width, height, wanted) in &TRANSPOSES {
         let shape = Shape { width, height };
         let input = items(&rt, rt.alloc(), shape.len());
         let output = transposed_slice(&rt, rt.alloc(), &input, shape);
@@ -85,7 +85,7 @@ fn numbered_items(rt: HostRuntime) {
         same(&rt, width, &hash(&output), &wanted);
         same(&rt, width, &writes, &(shape.len() as u128));
     }
-    for (width, height, wanted, places) in NUMBERED {
+    for &(width, height, wanted, places) in &NUMBERED {
         let shape = Shape { width, height };
         let input = numbers(&rt, rt.alloc(), shape.len());
         let (output, writes) = transposed(&rt, rt.alloc(), Put::On, &input, shape);
@@ -108,7 +108,7 @@ const SPLITS: [(usize, usize, u32, u32); 6] = [
 /// With as many levels as it needs, and with 64.
 #[test]
 fn nested_splits(rt: HostRuntime) {
-    for (height, width, needed, nested) in SPLITS {
+    for &(height, width, needed, nested) in &SPLITS {
         same(&rt, height, &levels_of(height, width), &needed);
         let shape = Shape { width, height };
         let input = numbers(&rt, rt.alloc(), shape.len());
@@ -197,18 +197,15 @@ const REGIONS: [([usize; 2], [usize; 2], bool); 8] = [
 
 #[test]
 fn conditions(rt: HostRuntime) {
-    for (row, (input, output, width, height, wanted)) in LENGTHS.into_iter().enumerate() {
+    for (row, &(input, output, width, height, wanted)) in LENGTHS.iter().enumerate() {
         let fits = fits_matrix(input, output, width, height);
         same(&rt, row, &fits, &wanted);
     }
-    for (row, (len, base, log_stride, log_size, wanted)) in SQUARES.into_iter().enumerate() {
+    for (row, &(len, base, log_stride, log_size, wanted)) in SQUARES.iter().enumerate() {
         let fits = fits_square(len, base, log_stride, log_size);
         same(&rt, row, &fits, &wanted);
     }
-    for (row, ([row_start, row_end], [col_start, col_end], wanted)) in REGIONS
-        .into_iter()
-        .enumerate()
-    {
+    for (row, &([row_start, row_end], [col_start, col_end], wanted)) in REGIONS.iter().enumerate() {
         let region = Region {
             row_start,
             row_end,
