@@ -8,8 +8,7 @@ use Rattle.p3_util.specs.declared.array_serialization.ElementError.TheVariants.{
 use Rattle.p3_util.specs.declared.array_serialization.ArrayError.{ArrayError}
 use Rattle.p3_util.specs.declared.array_serialization.ArrayError.TheVariants.{NotArray, Element, Length}
 
--- why a JSON value is not an element of a type: because of its kind, because it is out of range, or
--- because it is a float
+-- why a JSON value is not an element of a type: because of its kind or its range, or because it is a float
 pub data Refusal : Type 0 where
   wrong_kind : Refusal
   out_of_range : Refusal

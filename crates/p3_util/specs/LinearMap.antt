@@ -1,6 +1,5 @@
--- A map as the list of its pairs, in the order in which their keys were first inserted. The test
--- `eq` compares keys, and no two keys are equal.
--- Source: the documentation and the tests of `LinearMap` of p3-util 0.8.0.
+-- A map as the list of its pairs, in the order in which their keys were first inserted. The test `eq` compares keys,
+-- and no two keys are equal. Source: the documentation and the tests of `LinearMap` of p3-util 0.8.0.
 use Rattle.std.specs.Prelude.{Bool, List, [], ◌∷◌, ◌++◌, Option, is_some, fold, if◌then◌else◌}
 use Rattle.std.specs.List.{IsDistinct}
 use Rattle.std.specs.Map.{lookup, set_value, keys_of}

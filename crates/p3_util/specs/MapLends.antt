@@ -1,5 +1,4 @@
--- What a `LinearMap` becomes when a reference into it ends.
--- Source: the documentation of `LinearMap` of p3-util 0.8.0.
+-- What a `LinearMap` becomes when a reference into it ends. Source: the documentation of `LinearMap` of p3-util 0.8.0.
 use Rattle.std.specs.Prelude.{Bool, List, Option, Result}
 use Rattle.std.specs.Borrow.{Fml, RattleType, MutBor, LendsIf, LendsIfOk}
 use Rattle.p3_util.specs.LinearMap.{put, with_value}

@@ -1,5 +1,4 @@
--- What a holder of rows becomes when a `&mut` to one of their items ends.
--- Source: new.
+-- What a holder of rows becomes when a `&mut` to one of their items ends. Source: new.
 use Rattle.std.specs.Prelude.{ℕ, Option, List, ◌≡◌, slice_set}
 use Rattle.std.specs.Option.{OnSome}
 use Rattle.std.specs.Borrow.{LendsSo, MutBor, Fml, RattleType}

@@ -55,7 +55,6 @@ module _ {S T : Type 0} where
     abbrev pub AskedRuns : ZipEq S T → Type 0
     AskedRuns z = EachRunFrom zip_eq_steps z (λ p. SomeRun steps (zip_eq_first z) (λ u. SomeRun others (zip_eq_second z) (λ v. IsAskedRun p u v)))
 
--- how many pairs are left at most, if there is a bound: as many as the first iterator has items
--- left, which `left` gives
+-- how many pairs are left at most, if there is a bound: as many as `left` gives for the first iterator
 abbrev pub zip_eq_left : {S T : Type 0} → (S → Count) → ZipEq S T → Count
 zip_eq_left left z = left (zip_eq_first z)

@@ -1,5 +1,4 @@
--- What a call that checks its own precondition returns and does.
--- Source: new.
+-- What a call that checks its own precondition returns and does. Source: new.
 use Rattle.std.specs.Prelude.{ℕ, ◌≡◌, ◌*◌, ◌↔◌, Bool, IsTrue, List, length}
 use Rattle.std.specs.Bool.{OnTrue, OnFalse}
 use Rattle.p3_util_kernels.specs.Reversal.{FitsRows, IsReversal, IsRowReversal, IsZeroOrPowerOfTwo}

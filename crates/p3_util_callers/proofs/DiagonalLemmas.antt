@@ -52,8 +52,7 @@ module _ (base stride : ℕ) where
         (cut_exchanged (record row { col_end = col + 1 }) _ _ _ _ _ (IsCut-cols (record row { col_end = col + 1 }) col from (omega arith)) before
         (rw (start, end) (SwapsAcross-swap line col ys (omega arith) within (omega arith) room)))
 
-    -- the upper left quadrant, the upper right one with its mirror image, and the lower right one
-    -- together make the square
+    -- the upper left quadrant, the upper right one with its mirror image, and the lower right one make up the square
     pub SwapsAcross-quadrants : (start mid end : ℕ) (xs ys zs ws : List A) → start ≤ mid → mid ≤ end
         → SwapsAcross base stride (record { row_start = start; row_end = mid; col_start = start; col_end = mid }) xs ys
         → SwapsAcross base stride (record { row_start = start; row_end = mid; col_start = mid; col_end = end }) ys zs

@@ -12,8 +12,7 @@ SwapsStay among n old new =
     (steps : List (ℕ × ℕ)) → length steps ≡ n → after_swaps old steps ≡ new
     → AreOnceAmong (λ p. among p × (slice_get old p ≢ slice_get new p)) (places_swapped steps)
 
--- Each number below n that passes the test names a pair of places, an upper one and a lower one. No
--- place is in two pairs.
+-- Each number below n that passes the test names an upper and a lower place, a pair. No place is in two pairs.
 module _ (n : ℕ) (test : ℕ → Bool) (upper lower : ℕ → ℕ)
     (uppers : (i j : ℕ) → i < n → j < n → IsTrue (test i) → IsTrue (test j) → upper i ≡ upper j → i ≡ j)
     (lowers : (i j : ℕ) → i < n → j < n → IsTrue (test i) → IsTrue (test j) → lower i ≡ lower j → i ≡ j)
@@ -47,8 +46,7 @@ module _ (n : ℕ) (test : ℕ → Bool) (upper lower : ℕ → ℕ)
       (λ j hj tj e. ap (λ x. 2 * x + 1) (lowers i j hi hj ti tj e)) l hl tl)
       k hk tk
 
-  -- If all items differ, exchanged places change. So if there are as many exchanges as pairs, the
-  -- exchanges are at these places.
+  -- If all items differ, exchanged places change. So if there are as many exchanges as pairs, they are at these places.
   pub mirror-stays : {A : Type 0} (old new : List A) (among : ℕ → Type 0) → AllDiffer old
       → ((i : ℕ) → i < n → IsTrue (test i) → (upper i < length old) × (lower i < length old) × among (upper i) × among (lower i)
       × (slice_get new (upper i) ≡ slice_get old (lower i)) × (slice_get new (lower i) ≡ slice_get old (upper i)))

@@ -1,6 +1,5 @@
 -- Steps of several lists that are interleaved, as several threads make them. These definitions
--- serve private contracts: those of `src/laws.rt`.
--- Source: new.
+-- serve private contracts: those of `src/laws.rt`. Source: new.
 use Rattle.std.specs.Prelude.{ℕ, ◌≡◌, List, [], ◌∷◌, All, Some, length, map, slice_get, slice_set}
 use Rattle.std.specs.List.{range_with_len}
 use Rattle.p3_util_calls.specs.declared.parts.reversal.ReversalPlan.{ReversalPlan}

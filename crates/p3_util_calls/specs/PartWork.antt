@@ -1,5 +1,4 @@
--- What a part of a reversal has to do. This definition serves a private contract: that of `src/parts/reversal.rt`.
--- Source: new.
+-- What a part of a reversal has to do. It serves the private contract of `src/parts/reversal.rt`. Source: new.
 use Rattle.std.specs.Prelude.{ℕ, ◌≡◌}
 use Rattle.p3_util_calls.specs.declared.parts.reversal.ReversalPlan.{ReversalPlan}
 use Rattle.p3_util_calls.specs.declared.parts.reversal.ReversalPlan.TheVariants.{Patches, Whole}

@@ -1,6 +1,5 @@
 -- Consecutive numbers cut into parts. These definitions serve private contracts: those of
--- `src/parts.rt` and of the files below it.
--- Source: new.
+-- `src/parts.rt` and of the files below it. Source: new.
 use Rattle.std.specs.Prelude.{ℕ, Bool, ◌≡◌, ◌+◌, ◌-◌, ◌*◌, ◌/◌, ◌<◌, ◌≤◌, max, min, nat_le, if◌then◌else◌}
 use Rattle.std.specs.Int.{div_ceil}
 use Rattle.p3_util_kernels.specs.declared.transpose.regions.Region.{Region}

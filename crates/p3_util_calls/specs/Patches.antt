@@ -3,8 +3,7 @@
 --
 -- There are `2 ^ digits` rows. As `crates/p3_util_kernels/src/reverse/rows.rt` explains, they form one grid, or two if
 -- `digits` is odd. A grid has `2 ^ (digits / 2)` rows and as many columns. Both are cut into parts of
--- `part_len` numbers, which cuts the grid into patches.
--- Source: new.
+-- `part_len` numbers, which cuts the grid into patches. Source: new.
 use Rattle.std.specs.Prelude.{ℕ, ◌≡◌, ◌+◌, ◌-◌, ◌*◌, ◌/◌, ◌%◌, ◌^◌, ◌<◌, ◌≤◌, ◌==◌, if◌then◌else◌, List}
 use Rattle.p3_util_kernels.specs.declared.transpose.regions.Region.{Region}
 use Rattle.p3_util_kernels.specs.Grid.{SwapsInGrid, grid_of_rows}

@@ -1,5 +1,4 @@
--- The places of the parts of a call. These definitions serve private contracts: those of `src/laws.rt`.
--- Source: new.
+-- The places of the parts of a call. These definitions serve private contracts: those of `src/laws.rt`. Source: new.
 use Rattle.std.specs.Prelude.{◌≡◌, ◌≢◌, ℕ, ◌+◌, ◌-◌, ◌*◌, ◌/◌, ◌<◌, min, max, List, length, slice_get}
 use Rattle.p3_util_calls.specs.declared.parts.reversal.ReversalPlan.{ReversalPlan}
 use Rattle.p3_util_calls.specs.declared.parts.reversal.ReversalPlan.TheVariants.{Patches, Whole}

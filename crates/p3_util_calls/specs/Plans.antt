@@ -1,6 +1,5 @@
 -- How a reversal is cut, and its parts. These definitions serve private contracts: those of
--- `src/parts/reversal.rt` and of `src/laws.rt`.
--- Source: new.
+-- `src/parts/reversal.rt` and of `src/laws.rt`. Source: new.
 use Rattle.std.specs.Prelude.{ℕ, Option, None, Some, ◌⊎◌, ◌≡◌, ◌*◌, ◌%◌, ◌^◌, ◌<◌, ◌≤◌, ◌==◌, if◌then◌else◌, max, min, List, length}
 use Rattle.p3_util_calls.specs.declared.parts.reversal.ReversalPlan.{ReversalPlan}
 use Rattle.p3_util_calls.specs.declared.parts.reversal.ReversalPlan.TheVariants.{Patches, Whole}

@@ -1,5 +1,4 @@
--- A block of a matrix, put where its transpose belongs.
--- Source: new.
+-- A block of a matrix, put where its transpose belongs. Source: new.
 use Rattle.std.specs.Prelude.{ℕ, ◌≡◌, ◌≢◌, ◌+◌, ◌*◌, ◌<◌, ◌≤◌, List, [], ◌∷◌, take, drop, length, slice_get}
 use Rattle.std.specs.Borrow.{Bor}
 use Rattle.p3_util_kernels.specs.declared.places.bulk.Block.{Block}

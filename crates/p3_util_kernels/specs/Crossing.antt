@@ -3,8 +3,7 @@
 --
 -- There are `2 ^ (half + c)` rows of `row_width` items, where c is `half` or `half + 1`. As `src/reverse/rows.rt`
 -- explains, the index of a row has three parts: `half` high binary digits, whose reverse is x; then `c - half` digits
--- `middle`; and then `half` low digits y. The row is exchanged with the row for which x and y are swapped.
--- Source: new.
+-- `middle`; and then `half` low digits y. The row is exchanged with the row for which x and y are swapped. Source: new.
 use Rattle.std.specs.Prelude.{ℕ, ◌≡◌, ◌+◌, ◌-◌, ◌*◌, ◌^◌, ◌<◌, List, length}
 use Rattle.p3_util_kernels.specs.Digits.{rev}
 

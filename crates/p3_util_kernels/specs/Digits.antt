@@ -11,8 +11,7 @@ bit x i = (x / 2 ^ i) % 2
 unfoldable pub rev : (k x : ℕ) → ℕ
 rev k x = sum_below k (λ i. bit x i * 2 ^ (k - 1 - i))
 
--- what `reverse_bits_len` returns: `rev bit_len x`. If `bit_len` is 0, it is `rev 64 x` instead,
--- which reverses all 64 bits
+-- what `reverse_bits_len` returns: `rev bit_len x`. If `bit_len` is 0, all 64 bits are reversed
 unfoldable pub rev_word : (bit_len x : ℕ) → ℕ
 rev_word zero x = rev 64 x
 rev_word (suc k) x = rev (suc k) x

@@ -1,6 +1,5 @@
 -- Two runs of places exchanged, place by place, two tiles exchanged with each other's mirror image,
--- and one tile transposed.
--- Source: new.
+-- and one tile transposed. Source: new.
 use Rattle.std.specs.Prelude.{ℕ, ◌≡◌, ◌≢◌, ◌+◌, ◌*◌, ◌<◌, ◌≤◌, ◌⊎◌, min, max, List, length, slice_get, slice_index}
 
 -- The `len` items that begin at place i are exchanged, in order, with the `len` items that begin at

@@ -1,6 +1,5 @@
 -- Squares of a list whose rows are in order or in bit-reversed order, exchanged across the diagonal.
--- These definitions serve the private contracts of `src/grid.rt`.
--- Source: new.
+-- These definitions serve the private contracts of `src/grid.rt`. Source: new.
 use Rattle.std.specs.Prelude.{ℕ, ◌≡◌, ◌+◌, ◌*◌, ◌/◌, ◌%◌, ◌^◌, ◌<◌, ◌≤◌, ◌⊎◌, true, min, max, List, length, if◌then◌else◌}
 use Rattle.p3_util_kernels.specs.declared.grid.Grid.{Grid}
 use Rattle.p3_util_kernels.specs.declared.grid.RowDistances.{RowDistances}

@@ -1,5 +1,4 @@
--- Lists of exchanges and of writes, and the least number of steps in which a list can be rearranged.
--- Source: new.
+-- Lists of exchanges and of writes, and the least number of steps in which a list can be rearranged. Source: new.
 use Rattle.std.specs.Prelude.{ℕ, Bool, ◌==◌, ◌≡◌, ◌≢◌, ◌↔◌, ◌+◌, ◌-◌, ◌*◌, ◌/◌, ◌^◌, ◌<◌, ◌≤◌, IsTrue, if◌then◌else◌, List, [], ◌∷◌, All, AllPairs, length, slice_get, slice_set, swap}
 use Rattle.p3_util_kernels.specs.Digits.{rev}
 use Rattle.p3_util_kernels.specs.Sums.{sum_below}

@@ -1,5 +1,4 @@
--- How deep the splits of a transpose nest, as closed forms of the region's sides.
--- Source: a closed form.
+-- How deep the splits of a transpose nest, as closed forms of the region's sides. Source: a closed form.
 use Rattle.std.specs.Prelude.{ℕ, ◌+◌, ◌-◌, ◌&&◌, nat_lt, if◌then◌else◌}
 use Rattle.p3_util_kernels.specs.Logarithms.{clog}
 

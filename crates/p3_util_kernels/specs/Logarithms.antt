@@ -1,5 +1,4 @@
--- The logarithm to base 2, rounded up.
--- Source: the documentation of `log2_ceil_usize` of p3-util 0.8.0.
+-- The logarithm to base 2, rounded up. Source: the documentation of `log2_ceil_usize` of p3-util 0.8.0.
 use Rattle.std.specs.Prelude.{ℕ, ◌^◌, nat_lt, if◌then◌else◌}
 use Rattle.p3_util_kernels.specs.Sums.{sum_below}
 

@@ -1,5 +1,4 @@
--- Short names of types.
--- Source: the documentation and the code of `pretty_name` of p3-util 0.8.0.
+-- Short names of types. Source: the documentation and the code of `pretty_name` of p3-util 0.8.0.
 use Rattle.std.specs.Prelude.{ℕ, Bool, ◌==◌, ◌&&◌, ◌||◌, if◌then◌else◌, List, [], ◌∷◌}
 use Rattle.std.specs.List.{flat_map}
 

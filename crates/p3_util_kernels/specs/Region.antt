@@ -1,5 +1,4 @@
--- A region of a matrix, transposed into an output that has room for the transpose of the whole matrix.
--- Source: new.
+-- A region of a matrix, transposed into an output that has room for the transpose of the whole matrix. Source: new.
 use Rattle.std.specs.Prelude.{ℕ, ◌≡◌, ◌≢◌, ◌+◌, ◌-◌, ◌*◌, ◌^◌, ◌<◌, ◌≤◌, List, length, slice_get}
 use Rattle.p3_util_kernels.specs.declared.transpose.regions.Region.{Region}
 
@@ -31,8 +30,7 @@ items_of region = rows_of region * cols_of region
 
 -- `input` has `height` rows of `width` items, and an output changes from `old` to `new`. For each
 -- row y and column x of the region, item `x * height + y` of `new` is item `y * width + x` of
--- `input`. Every other item of the output stays as it was.
--- Source: the rectangular transposes of p3-util 0.8.0.
+-- `input`. Every other item of the output stays as it was. Source: the rectangular transposes of p3-util 0.8.0.
 pub record IsRegionTransposed {A : Type 0} (region : Region) (width height : ℕ) (input old new : List A) : Type 0 where
   pub same_length : length new ≡ length old
   pub places : (x y : ℕ) → IsInRegion region x y → slice_get new (x * height + y) ≡ slice_get input (y * width + x)

@@ -1,22 +1,18 @@
--- Bit reversal of a list, item by item or row by row.
--- Source: the comment above the bit reversal kernels of p3-util 0.8.0.
+-- Bit reversal of the items or the rows of a list. Source: the comment above the bit reversal kernels of p3-util 0.8.0.
 use Rattle.std.specs.Prelude.{ℕ, ◌≡◌, ◌+◌, ◌-◌, ◌*◌, ◌^◌, ◌<◌, ◌⊎◌, ◌==◌, ◌||◌, IsTrue, bit_and, List, length, slice_get}
 use Rattle.std.specs.Int.{IsPowerOfTwo, is_power_of_two}
 use Rattle.p3_util_kernels.specs.Digits.{rev}
 
--- n is 0 or a power of two.
--- Source: the condition of the original's reversal.
+-- n is 0 or a power of two. Source: the condition of the original's reversal.
 abbrev pub IsZeroOrPowerOfTwo : ℕ → Type 0
 IsZeroOrPowerOfTwo n = (n ≡ 0) ⊎ IsPowerOfTwo n
 
 -- `IsZeroOrPowerOfTwo n`, which may be shown in one of three ways: by itself; by a call of std's `is_power_of_two` that
--- returned true; or, if n is a literal, by a test that the checker evaluates. The last two ways spare callers a proof.
--- Source: new.
+-- returned true; or, if n is a literal, by a test that the checker evaluates. Source: new.
 abbrev pub IsReversible : ℕ → Type 0
 IsReversible n = IsZeroOrPowerOfTwo n ⊎ IsTrue (bit_and n (n - 1) == 0 || is_power_of_two n)
 
--- `len` items fill whole rows of `row_width` items, and the number of rows is 0 or a power of two.
--- Source: new.
+-- `len` items fill whole rows of `row_width` items, and the number of rows is 0 or a power of two. Source: new.
 abbrev pub FitsRows : (len row_width : ℕ) → Type 0
 FitsRows len row_width = (rows : ℕ) × IsZeroOrPowerOfTwo rows × (len ≡ row_width * rows)
 

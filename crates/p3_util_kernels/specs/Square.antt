@@ -1,5 +1,4 @@
--- A square of items inside a list, transposed in place.
--- Source: `transpose_in_place_square` of p3-util 0.8.0.
+-- A square of items inside a list, transposed in place. Source: `transpose_in_place_square` of p3-util 0.8.0.
 use Rattle.std.specs.Prelude.{ℕ, ◌≡◌, ◌≢◌, ◌+◌, ◌*◌, ◌^◌, ◌<◌, List, length, slice_get}
 
 -- A square in a list has `2 ^ log_size` rows and as many columns. It begins at place `base`, and each row begins

@@ -1,5 +1,4 @@
--- The two stages of the transpose of a block of 4 by 4 items.
--- Source: the block transposes of p3-util 0.8.0.
+-- The two stages of the transpose of a block of 4 by 4 items. Source: the block transposes of p3-util 0.8.0.
 use Rattle.std.specs.Prelude.{ℕ, ◌≡◌, ◌+◌, ◌*◌, ◌<◌, List, Option, slice_get}
 use Rattle.std.specs.Option.{option_and_then}
 

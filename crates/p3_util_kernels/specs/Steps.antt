@@ -1,5 +1,4 @@
--- How counts add up: a count stops at the largest u128.
--- Source: new.
+-- How counts add up: a count stops at the largest u128. Source: new.
 use Rattle.std.specs.Prelude.{ℕ, ◌+◌, ◌-◌, ◌^◌, min}
 
 -- the count c after s more steps. A count stops at the largest u128, so this is `min (2 ^ 128 - 1) (c + s)`

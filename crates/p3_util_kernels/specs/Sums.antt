@@ -1,5 +1,4 @@
--- Sums over the numbers below a bound.
--- Source: a closed form.
+-- Sums over the numbers below a bound. Source: a closed form.
 use Rattle.std.specs.Prelude.{ℕ, zero, suc, ◌+◌}
 
 -- `f 0 + f 1 + .. + f (n - 1)`

@@ -1,5 +1,4 @@
--- How many swaps a bit reversal makes, as closed forms.
--- Source: a closed form.
+-- How many swaps a bit reversal makes, as closed forms. Source: a closed form.
 use Rattle.std.specs.Prelude.{ℕ, ◌+◌, ◌-◌, ◌*◌, ◌/◌, ◌^◌, nat_le, if◌then◌else◌}
 use Rattle.p3_util_kernels.specs.Logarithms.{clog}
 

@@ -1,5 +1,4 @@
--- The transpose of a matrix in row-major order.
--- Source: the documentation of `transpose` of p3-util 0.8.0.
+-- The transpose of a matrix in row-major order. Source: the documentation of `transpose` of p3-util 0.8.0.
 use Rattle.std.specs.Prelude.{ℕ, ◌≡◌, ◌+◌, ◌*◌, ◌<◌, List, length, slice_get}
 
 -- `old` has `height` rows of `width` items. `new` is its transpose, which has `width` rows of `height` items: item

@@ -1,5 +1,4 @@
--- Rows of items in registers, and squares of rows that are transposed by interleaving registers.
--- Source: new.
+-- Rows of items in registers, and squares of rows that are transposed by interleaving registers. Source: new.
 use Rattle.std.specs.Prelude.{ℕ, ◌≡◌, ◌≢◌, ◌+◌, ◌-◌, ◌*◌, ◌/◌, ◌%◌, ◌<◌, ◌≤◌, ◌⊎◌, List, [], ◌∷◌, length, slice_get, slice_index}
 use Rattle.p3_util_kernels.specs.Stages.{item_at}
 use Rattle.p3_util_kernels.specs.declared.places.bulk.Block.{Block}

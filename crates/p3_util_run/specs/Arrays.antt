@@ -1,5 +1,4 @@
--- Lists of numbers as JSON, defined by how `serde_json` reads and writes them.
--- Source: new.
+-- Lists of numbers as JSON, defined by how `serde_json` reads and writes them. Source: new.
 use Rattle.std.specs.Prelude.{ℕ, ◌≡◌, List, [], ◌∷◌, ◌++◌, map, Some, IsUtf8}
 use Rattle.serde_json.specs.Data.{Data, number, array, unsigned}
 use Rattle.serde_json.specs.Read.{read}

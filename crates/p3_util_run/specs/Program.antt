@@ -1,5 +1,4 @@
--- What the program does: the text that it writes for its arguments and its input, and why it ends without one.
--- Source: new.
+-- What the program writes for its arguments and its input, and why it ends without a text. Source: new.
 use Rattle.std.specs.Prelude.{ℕ, ◌≡◌, ◌⊎◌, ◌*◌, List, length, map, String, string_bytes, Option, Result, Ok, Err, IsSomeAnd, MatchOption, ⊤}
 use Rattle.std.specs.declared.alloc.Global.{Global}
 use Rattle.std.specs.Io.KnownBytes.{Consumes, IsAtEnd}

@@ -1,5 +1,4 @@
--- What is printed for a fault. Numbers are decimal.
--- Source: new.
+-- What is printed for a fault. Numbers are decimal. Source: new.
 use Rattle.std.specs.Prelude.{ℕ, List, ◌++◌, codes}
 use Rattle.std.specs.Fmt.{decimal}
 use Rattle.p3_util_run.specs.declared.fault.RunFault.{RunFault}

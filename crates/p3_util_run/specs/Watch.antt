@@ -1,5 +1,4 @@
--- A reader or a writer whose failures are counted. The count stops at the largest u64.
--- Source: new.
+-- A reader or a writer whose failures are counted. The count stops at the largest u64. Source: new.
 use Rattle.std.specs.Prelude.{Bool, ℕ, ◌≡◌, ◌+◌, ◌-◌, ◌^◌, ◌<◌, ◌⊎◌, min, List, length, Result, Ok, Err, nat_lt, ◌&&◌, ◌==◌, if◌then◌else◌}
 use Rattle.p3_util_run.specs.declared.watched.InputEnd.{InputEnd}
 use Rattle.p3_util_run.specs.declared.watched.InputEnd.TheVariants.{Ahead, Reached, Passed}
@@ -25,8 +24,7 @@ count_after_call (Err _) count = noted count
 abbrev pub moves_none : ℕ → List ℕ → Bool
 moves_none n bytes = n == 0 && nat_lt 0 (length bytes)
 
--- the count after a write of these bytes. It has failed if it returned an error, or if there were
--- bytes and it took none of them
+-- the count after a write of these bytes. It has failed if it returned an error, or took none though there were some
 abbrev pub count_after_write : {E : Type 0} → Result ℕ E → List ℕ → ℕ → ℕ
 count_after_write (Ok n) bytes count = if moves_none n bytes then noted count else count
 count_after_write (Err _) bytes count = noted count

@@ -103,8 +103,7 @@ module _ {A : Type 0} (grid : Grid) (items : List A) (holds : HoldsGrid grid ite
         let done : Region = record region { row_start = row; row_end = row + 1; col_end = col + 1 } in
         cut_exchanged done _ _ xs ys zs (IsCut-cols done col from (omega arith)) before (SwapsInGrid-pair row col ys zs (omega arith) within step)
 
-    -- the upper left quadrant, the upper right one with its mirror image, and the lower right one
-    -- together make the square
+    -- the upper left quadrant, the upper right one with its mirror image, and the lower right one make up the square
     pub SwapsInGrid-quadrants : (start mid end : ℕ) (xs ys zs ws : List B) → start ≤ mid → mid ≤ end
         → SwapsInGrid grid (record { row_start = start; row_end = mid; col_start = start; col_end = mid }) xs ys
         → SwapsInGrid grid (record { row_start = start; row_end = mid; col_start = mid; col_end = end }) ys zs

@@ -1,5 +1,4 @@
--- Joined lists and lists that are cut in two: which item is at each place. How a length is cut into
--- parts is in CutParts.
+-- Joined lists and lists that are cut in two: which item is at each place.
 use Rattle.std.proofs.Common.{◌≡◌, ℕ, ◌+◌, ◌-◌, ◌<◌, ◌≤◌, ◌⊎◌, List, ◌++◌, length, slice_get, take, drop, length-append, length-drop, inl, inr, ◌∙◌, length-take, arith}
 use Rattle.std.proofs.lemmas.Grind.{common_steps}
 use Rattle.std.proofs.lemmas.Option.{gets}
