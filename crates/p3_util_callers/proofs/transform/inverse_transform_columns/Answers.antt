@@ -1,6 +1,5 @@
 -- The list that is written back holds the inverse transform.
-use Rattle.std.proofs.Common.{◌≡◌, length, sym, ap, ◌∙◌, rules, arith}
-use Rattle.std.proofs.lemmas.Grind.{common_steps}
+use Rattle.std.proofs.Common.{◌≡◌, length, sym, ap, ◌∙◌, rules}
 use Rattle.p3_util_callers.proofs.TransformLemmas.Inverse.{IsInverseTransformed-same}
 use Rattle.p3_util_kernels.proofs.BitsLemmas.Powers.{exponent-same}
 use Rattle.p3_util_callers.proofs.TransformLemmas.Stages.{written_back}
@@ -18,9 +17,3 @@ returns-clause-transformed c k e =
     IsInverseTransformed-same r k m.width c.args.matrix.now.width c.deref_mut.result.now c.args.matrix.now.items new _
     same (ap (λ m. m.width) c.matrix.view_is) (c.deref_mut.ensures.value ∙ ap (λ m. m.items) c.matrix.view_is)
     (written_back m.values.len new m.values.items new_length old_length) c.in_ok-inverse_transform.ensures.transformed
-
-pub invariant_of-matrix-inside : goal.invariant_of-matrix-inside
-invariant_of-matrix-inside c = grind (arith, common_steps)
-
-pub returns-clause-fits : goal.returns-clause-fits
-returns-clause-fits c = grind (arith, common_steps)

@@ -1,6 +1,5 @@
 -- The list that is written back holds the transform.
-use Rattle.std.proofs.Common.{◌≡◌, ◌^◌, length, get_or, sym, ap, ◌∙◌, rules, arith}
-use Rattle.std.proofs.lemmas.Grind.{common_steps}
+use Rattle.std.proofs.Common.{◌≡◌, ◌^◌, length, get_or, sym, ap, ◌∙◌, rules}
 use Rattle.p3_util_callers.specs.declared.transform.field.TheConstants.{ROOTS}
 use Rattle.p3_util_kernels.proofs.BitsLemmas.Powers.{exponent-same}
 use Rattle.p3_util_callers.proofs.TransformLemmas.Stages.{IsTransformed-same, written_back}
@@ -19,15 +18,3 @@ returns-clause-transformed c k e =
     (c.root.ensures.value ∙ ap (λ n. get_or ROOTS n 0) same) (ap (λ m. m.width) c.matrix.view_is) (sym levels.ensures.power)
     (c.deref_mut.ensures.value ∙ ap (λ m. m.items) c.matrix.view_is) (written_back m.values.len new m.values.items new_length old_length)
     c.in_ok-transform_by.ensures.transformed
-
-pub invariant_of-matrix-inside : goal.invariant_of-matrix-inside
-invariant_of-matrix-inside c = grind (arith, common_steps)
-
-pub returns-in_err-transform_by-clause-fits : goal.returns-in_err-transform_by-clause-fits
-returns-in_err-transform_by-clause-fits c = grind (arith, common_steps)
-
-pub returns-in_err-transform_by-clause-refused : goal.returns-in_err-transform_by-clause-refused
-returns-in_err-transform_by-clause-refused c = grind (arith, common_steps)
-
-pub returns-clause-fits : goal.returns-clause-fits
-returns-clause-fits c = grind (arith, common_steps)

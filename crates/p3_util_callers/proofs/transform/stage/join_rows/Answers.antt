@@ -1,6 +1,5 @@
 -- Each turn of the loop joins one more column of the two rows.
 use Rattle.std.proofs.Common.{◌+◌, ◌*◌, ◌<◌, rules, arith}
-use Rattle.std.proofs.lemmas.Grind.{common_steps}
 use Rattle.std.proofs.lemmas.Nat.{same_from_place}
 use Rattle.p3_util_callers.proofs.TransformLemmas.Rows.{JoinedBelow-more}
 use Rattle.p3_util_callers.proofs.transform.stage.join_rows.Goals as goal
@@ -16,6 +15,3 @@ returns-clause-others c r not_low not_high j h =
     c.loop-c.invariant.others (r * width + j) (λ k less.
     let in_row : k < width = omega arith in
     (λ e. not_low (same_from_place r j c.args.low k width h in_row e).0, λ e. not_high (same_from_place r j c.args.high k width h in_row e).0))
-
-pub bounds-values-low-in-loop-c : goal.bounds-values-low-in-loop-c
-bounds-values-low-in-loop-c c = grind (arith, common_steps)
