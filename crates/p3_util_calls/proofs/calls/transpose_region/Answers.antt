@@ -1,5 +1,5 @@
 -- A region that has all rows and all columns is put by the whole call.
-use Rattle.std.proofs.Common.{arith}
+use Rattle.std.proofs.Common.{rules, arith}
 use Rattle.p3_util_calls.proofs.WholeMatrix.{whole_items, whole_put}
 use Rattle.p3_util_calls.proofs.calls.transpose_region.Goals as goal
 
@@ -12,3 +12,9 @@ pub returns-then-cols-matrix-clause-holder : goal.returns-then-cols-matrix-claus
 returns-then-cols-matrix-clause-holder g c =
     rw (whole_items c.args.region c.args.matrix.width c.args.matrix.height (omega arith) (omega arith) (omega arith) (omega arith))
     c.transpose_whole.ensures.holder
+
+pub returns-else-rows-matrix-clause-transposed : goal.returns-else-rows-matrix-clause-transposed
+returns-else-rows-matrix-clause-transposed g c = search rules
+
+pub returns-else-rows-matrix-clause-holder : goal.returns-else-rows-matrix-clause-holder
+returns-else-rows-matrix-clause-holder g c = search rules

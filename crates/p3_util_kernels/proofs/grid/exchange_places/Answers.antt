@@ -16,3 +16,6 @@ returns-then-width-eq1-clause-exchanged g c =
     let first = rw one at c.requires.first in
     let second = rw one at c.requires.second in
     rw (one, i, j) (RunsExchanged-one c.args.i c.args.j _ _ (omega arith) (omega arith) (search rules))
+
+pub returns-then-width-eq1-clause-holder : goal.returns-then-width-eq1-clause-holder
+returns-then-width-eq1-clause-holder g c = search rules

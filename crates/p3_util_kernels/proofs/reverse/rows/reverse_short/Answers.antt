@@ -1,5 +1,5 @@
 -- Single items are rows of one item.
-use Rattle.std.proofs.Common.{arith}
+use Rattle.std.proofs.Common.{rules, arith}
 use Rattle.p3_util_kernels.proofs.ReverseLemmas.Lengths.{rows_of_one}
 use Rattle.p3_util_kernels.proofs.reverse.rows.reverse_short.Goals as goal
 
@@ -8,3 +8,6 @@ of-rows-requires g c = grind (arith, rows_of_one)
 
 pub reverse_rows-requires-clause-fits : goal.reverse_rows-requires-clause-fits
 reverse_rows-requires-clause-fits g c = grind (arith, rows_of_one)
+
+pub returns-clause-holder : goal.returns-clause-holder
+returns-clause-holder g c = search rules

@@ -1,5 +1,5 @@
 -- The recursion of the split. Its measure is the number of levels that remain.
-use Rattle.std.proofs.Common.{arith}
+use Rattle.std.proofs.Common.{rules, arith}
 use Rattle.p3_util_kernels.specs.Region.{cols_of, rows_of}
 use Rattle.p3_util_kernels.proofs.TransposeLemmas.Halves.{region_levels}
 use Rattle.p3_util_kernels.proofs.TransposeLemmas.Levels.{nest_le}
@@ -23,3 +23,6 @@ returns-clause-bound g t c =
       nest_le (rows_of c.args.region) (cols_of c.args.region),
       region_levels c.args.region c.args.matrix.width c.args.matrix.height c.requires.ready.inside (omega arith) (omega arith) (omega arith),
     )
+
+pub returns-clause-nested : goal.returns-clause-nested
+returns-clause-nested g t c = search rules

@@ -1,5 +1,5 @@
 -- The runs that are read are within the source.
-use Rattle.std.proofs.Common.{refl, arith}
+use Rattle.std.proofs.Common.{rules, refl, arith}
 use Rattle.p3_util_registers.proofs.RegistersBlocks.{run_inside}
 use Rattle.p3_util_registers.proofs.registers.blocks.put_block_in_squares.Goals as goal
 
@@ -11,3 +11,6 @@ put_by_squares-requires-clause-reads g c = λ r col hr hc.
 
 pub put_by_squares-requires-clause-block : goal.put_by_squares-requires-clause-block
 put_by_squares-requires-clause-block g c = rw (c.requires.same, g.met.M.RunsOfCells.same_items c.args.cells.now) c.requires.fits
+
+pub returns-then-is_square-clause-holder : goal.returns-then-is_square-clause-holder
+returns-then-is_square-clause-holder g c = search rules
