@@ -12,7 +12,7 @@ SwapsStay among n old new =
     (steps : List (ℕ × ℕ)) → length steps ≡ n → after_swaps old steps ≡ new
     → AreOnceAmong (λ p. among p × (slice_get old p ≢ slice_get new p)) (places_swapped steps)
 
--- Each number below n that passes the test names an upper and a lower place, a pair. No place is in two pairs.
+-- Each number below n that passes the test names a pair of places, an upper and a lower one. No place is in two pairs.
 module _ (n : ℕ) (test : ℕ → Bool) (upper lower : ℕ → ℕ)
     (uppers : (i j : ℕ) → i < n → j < n → IsTrue (test i) → IsTrue (test j) → upper i ≡ upper j → i ≡ j)
     (lowers : (i j : ℕ) → i < n → j < n → IsTrue (test i) → IsTrue (test j) → lower i ≡ lower j → i ≡ j)
