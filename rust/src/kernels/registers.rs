@@ -211,31 +211,13 @@ fn in_rows(x: [usize; 8], side: usize, tops: [usize; 8]) -> [usize; 8] {
 /// The same as [`in_columns`], for the same column in each row.
 #[inline(always)]
 fn in_column(x: [usize; 8], top: usize) -> [usize; 8] {
-    [
-        x[0] + top,
-        x[1] + top,
-        x[2] + top,
-        x[3] + top,
-        x[4] + top,
-        x[5] + top,
-        x[6] + top,
-        x[7] + top,
-    ]
+    in_columns(x, [top; 8])
 }
 
 /// The same as [`in_rows`], for squares side by side that begin in the same row of a tile.
 #[inline(always)]
 fn in_band(x: [usize; 8], side: usize, top: usize) -> [usize; 8] {
-    [
-        row_of_squares(x, side, top, 0),
-        row_of_squares(x, side, top, 1),
-        row_of_squares(x, side, top, 2),
-        row_of_squares(x, side, top, 3),
-        row_of_squares(x, side, top, 4),
-        row_of_squares(x, side, top, 5),
-        row_of_squares(x, side, top, 6),
-        row_of_squares(x, side, top, 7),
-    ]
+    in_rows(x, side, [top; 8])
 }
 
 /// Exchanges `D::SIDE` rows of a tile, from row `row` on, with as many columns of the other.

@@ -94,21 +94,15 @@ pub(crate) fn put_by_lines<T, D: Register<T>, S: Loads<T, D>, M: Runs<T, D>>(
     block: Block,
 ) {
     let side = D::SIDE;
-    if side == 1 {
-        put_four(cells, source, block, 0);
-        if block.cols > 1 {
-            put_four(cells, source, block, 1);
-            put_four(cells, source, block, 2);
-            put_four(cells, source, block, 3);
-        }
-        return;
-    }
-    if block.cols == 1 {
+    if side > 1 && block.cols == 1 {
         put_one_line(cells, source, block);
         return;
     }
-    put_some_lines(cells, source, block, 0);
-    put_some_lines(cells, source, block, side);
-    put_some_lines(cells, source, block, 2 * side);
-    put_some_lines(cells, source, block, 3 * side);
+    for part in 0..block.cols / side {
+        if side == 1 {
+            put_four(cells, source, block, part);
+        } else {
+            put_some_lines(cells, source, block, part * side);
+        }
+    }
 }
