@@ -30,12 +30,32 @@ pub(crate) fn len_fits(_len: usize) {}
 /// The greatest number of rows of the regions that make up a matrix.
 const REGION_ROWS: usize = 128;
 
-/// The four items of a source from place `at` on.
-fn four_items<R: Source>(input: &R, at: usize) -> [R::Item; 4]
-    requires { at + 4 ≤ length (R.items input.now) }
-    ensures { (j : ℕ) → j < 4 → slice_get result j ≡ slice_get (R.items input.now) (at + j) }
+/// Where four items of row `row` begin, those from column `col` on, in a matrix of `len` items.
+fn place_of_four(len: usize, row: usize, col: usize, width: usize, height: usize) -> usize
+    requires whole { len ≡ width * height }
+    requires row { row < height }
+    requires cols { col + 4 ≤ width }
+    ensures is { result ≡ row * width + col }
+    ensures room { result + 4 ≤ len }
 {
-    len_fits(input.len());
+    row * width + col
+}
+
+/// Four items of row `row` of a matrix, from column `col` on.
+fn four_items<R: Source>(
+    input: &R,
+    row: usize,
+    col: usize,
+    width: usize,
+    height: usize,
+) -> [R::Item; 4]
+    requires input_fits { length (R.items input.now) ≡ width * height }
+    requires row { row < height }
+    requires cols { col + 4 ≤ width }
+    ensures { (c : ℕ) → c < 4
+        → slice_get result c ≡ slice_get (R.items input.now) (row * width + (col + c)) }
+{
+    let at = place_of_four(input.len(), row, col, width, height);
     [
         input.at(at),
         input.at(at + 1),
@@ -58,12 +78,11 @@ fn read_block<R: Source>(
     ensures { (r c : ℕ) → r < 4 → c < 4
         → item_at result r c ≡ slice_get (R.items input.now) ((row + r) * width + (col + c)) }
 {
-    len_fits(input.len());
     [
-        four_items(input, row * width + col),
-        four_items(input, (row + 1) * width + col),
-        four_items(input, (row + 2) * width + col),
-        four_items(input, (row + 3) * width + col),
+        four_items(input, row, col, width, height),
+        four_items(input, row + 1, col, width, height),
+        four_items(input, row + 2, col, width, height),
+        four_items(input, row + 3, col, width, height),
     ]
 }
 
@@ -112,12 +131,12 @@ where
         (C.items cells.old) (C.items cells.new) }
     ensures holder { C.same_holder 16 cells.old cells.new }
 {
-    len_fits(cells.len());
     let (row, col) = (block.row_start, block.col_start);
     let turned = butterfly_4x4(read_block(input, row, col, width, height));
     for k in 0..4 {
         let column = row_of(turned, k);
-        put_four(cells, (col + k) * height + row, column);
+        let to = place_of_four(cells.len(), col + k, row, height, width);
+        put_four(cells, to, column);
     }
 }
 

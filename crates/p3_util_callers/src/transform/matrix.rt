@@ -103,12 +103,20 @@ impl<T: Copy + Default> RowMajorMatrix<T> {
         ensures width { IfOk result (λ m. m.width ≡ self.now.height) }
         ensures height { IfOk result (λ m. m.height ≡ self.now.width) }
     {
-        let mut values = vec![in alloc; T::default(); self.values.len()]?;
-        transpose(&self.values, &mut values, self.width, self.height);
         Ok(RowMajorMatrix {
-            values,
+            values: self.transposed_values(alloc)?,
             width: self.height,
             height: self.width,
         })
+    }
+
+    /// The items, column by column.
+    fn transposed_values(&self, alloc: Global) -> Result<Vec<T>, AllocError>
+        ensures { IfOk result (λ v. IsTranspose self.now.width self.now.height
+            self.now.items v.items) }
+    {
+        let mut values = vec![in alloc; T::default(); self.values.len()]?;
+        transpose(&self.values, &mut values, self.width, self.height);
+        Ok(values)
     }
 }
