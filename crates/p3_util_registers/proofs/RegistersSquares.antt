@@ -1,5 +1,5 @@
 -- Two tiles are exchanged item by item, in squares of 4 by 4.
-use Rattle.std.proofs.Common.{◌≡◌, ◌≢◌, ℕ, ◌+◌, ◌-◌, ◌*◌, ◌<◌, ◌≤◌, ◌⊎◌, List, length, slice_index, inl, inr, refl, ap, ◌∙◌, swap, arith}
+use Rattle.std.proofs.Common.{◌≡◌, ◌≢◌, ℕ, ◌+◌, ◌-◌, ◌%◌, ◌*◌, ◌<◌, ◌≤◌, ◌⊎◌, List, length, slice_index, inl, inr, refl, ap, ◌∙◌, swap, arith}
 use Rattle.std.proofs.lemmas.Bool.{cases_eq, cases_lt}
 use Rattle.std.proofs.lemmas.List.Edits.{length-swap}
 use Rattle.p3_util_kernels.specs.Exchanged.{AreTiles, TilesExchanged}
@@ -62,22 +62,23 @@ module _ (x y : List ℕ) (len : ℕ) (tiles : AreTiles x y len) where
   }
 
   -- one more item of a square is exchanged
-  pub ItemsExchanged-more : {A : Type 0} (row col r c : ℕ) (old now next : List A) → len ≡ length old → row + 4 ≤ 8 → col + 4 ≤ 8 → r < 4 → c < 4
-      → ItemsExchanged (IsSquareOf row col (4 * r + c)) x y old now → next ≡ swap now (slice_index x (row + r) + (col + c)) (slice_index y (col + c) + (row + r))
-      → ItemsExchanged (IsSquareOf row col (4 * r + (c + 1))) x y old next
-  ItemsExchanged-more row col r c old now next all hrow hcol hr hc before step =
-      ItemsExchanged-joined (IsSquareOf row col (4 * r + c)) (IsItem (row + r) (col + c)) (IsSquareOf row col (4 * r + (c + 1))) old now next
+  pub ItemsExchanged-more : {A : Type 0} (row col d r : ℕ) (old now next : List A) → len ≡ length old → row + 4 ≤ 8 → col + 4 ≤ 8 → d < 4 → r < 4
+      → ItemsExchanged (IsSquareOf row col (4 * d + r)) x y old now
+      → next ≡ swap now (slice_index x (row + r) + (col + (r + d) % 4)) (slice_index y (col + (r + d) % 4) + (row + r))
+      → ItemsExchanged (IsSquareOf row col (4 * d + (r + 1))) x y old next
+  ItemsExchanged-more row col d r old now next all hrow hcol hd hr before step =
+      ItemsExchanged-joined (IsSquareOf row col (4 * d + r)) (IsItem (row + r) (col + (r + d) % 4)) (IsSquareOf row col (4 * d + (r + 1))) old now next
       (λ a b v w is k. elim (cases_eq a v) [
-        | inl same ↦ inr (λ e. omega (arith, is.0, is.1.0, is.1.1.0, is.1.1.1, k.0, k.1))
+        | inl same ↦ inr (λ e. omega (arith, is.0, is.1.0, is.1.1.0, is.1.1.1.0, is.1.1.1.1, k.0, k.1))
         | inr other ↦ inl other
       ])
-      (λ a b ha hb is. elim (cases_lt (4 * (a - row) + (b - col)) (4 * r + c)) [
-        | inl early ↦ inl (is.0, (is.1.0, (is.1.1.0, early)))
-        | inr late ↦ inr (omega (arith, is.0, is.1.0, is.1.1.0, is.1.1.1), omega (arith, is.0, is.1.0, is.1.1.0, is.1.1.1))
+      (λ a b ha hb is. elim (cases_lt (4 * ((b - col + 4 - (a - row)) % 4) + (a - row)) (4 * d + r)) [
+        | inl early ↦ inl (is.0, (is.1.0, (is.1.1.0, (is.1.1.1.0, early))))
+        | inr late ↦ inr (omega (arith, is.0, is.1.1.1.0, is.1.1.1.1), omega (arith, is.0, is.1.0, is.1.1.0, is.1.1.1.0, is.1.1.1.1))
       ])
-      (λ a b is. (is.0, (is.1.0, (is.1.1.0, omega (arith, is.1.1.1)))))
-      (λ a b is. (omega (arith, is.0), (omega (arith, is.1), (omega (arith, is.1), omega (arith, is.0, is.1)))))
-      before (ItemsExchanged-one (row + r) (col + c) now next (omega (arith, before.same_length)) (omega arith) (omega arith) step)
+      (λ a b is. (is.0, (is.1.0, (is.1.1.0, (is.1.1.1.0, omega (arith, is.1.1.1.1))))))
+      (λ a b is. (omega (arith, is.0), (omega (arith, is.1), (omega (arith, is.1), (omega (arith, is.0), omega (arith, is.0, is.1))))))
+      before (ItemsExchanged-one (row + r) (col + (r + d) % 4) now next (omega (arith, before.same_length)) (omega arith) (omega arith) step)
 
   -- all four squares are exchanged
   pub TilesExchanged-squares : {A : Type 0} (a b c d e : List A) → ItemsExchanged (IsSquareOf 0 0 16) x y a b → ItemsExchanged (IsSquareOf 0 4 16) x y b c
@@ -85,12 +86,12 @@ module _ (x y : List ℕ) (len : ℕ) (tiles : AreTiles x y len) where
   TilesExchanged-squares a b c d e one two three four =
       let top = ItemsExchanged-joined (IsSquareOf 0 0 16) (IsSquareOf 0 4 16) (λ r c. r < 4) a b c
       (λ r c v w h k. inr (λ e. omega (arith, h.1.1.0, k.1.0)))
-      (λ r c hr hc h. elim (cases_lt c 4) [ inl left ↦ inl (omega arith, (omega arith, (omega arith, omega arith))) | inr right ↦ inr (omega arith, (omega arith, (omega arith, omega arith))) ])
-      (λ r c h. omega (arith, h.1.1.1)) (λ r c h. omega (arith, h.1.1.1)) one two in
+      (λ r c hr hc h. elim (cases_lt c 4) [ inl left ↦ inl (omega arith, (omega arith, (omega arith, (omega arith, omega arith)))) | inr right ↦ inr (omega arith, (omega arith, (omega arith, (omega arith, omega arith)))) ])
+      (λ r c h. omega (arith, h.1.1.1.0)) (λ r c h. omega (arith, h.1.1.1.0)) one two in
       let bottom = ItemsExchanged-joined (IsSquareOf 4 0 16) (IsSquareOf 4 4 16) (λ r c. (4 ≤ r) × (r < 8)) c d e
       (λ r c v w h k. inr (λ e. omega (arith, h.1.1.0, k.1.0)))
-      (λ r c hr hc h. elim (cases_lt c 4) [ inl left ↦ inl (h.0, (omega arith, (omega arith, omega (arith, h.1)))) | inr right ↦ inr (h.0, (omega arith, (omega arith, omega (arith, h.1)))) ])
-      (λ r c h. (h.0, omega (arith, h.0, h.1.1.1))) (λ r c h. (h.0, omega (arith, h.0, h.1.1.1))) three four in
+      (λ r c hr hc h. elim (cases_lt c 4) [ inl left ↦ inl (h.0, (omega arith, (omega arith, (omega (arith, h.1), omega (arith, h.0, h.1))))) | inr right ↦ inr (h.0, (omega arith, (omega arith, (omega (arith, h.1), omega (arith, h.0, h.1))))) ])
+      (λ r c h. (h.0, omega (arith, h.1.1.1.0))) (λ r c h. (h.0, omega (arith, h.1.1.1.0))) three four in
       let all = ItemsExchanged-joined (λ r c. r < 4) (λ r c. (4 ≤ r) × (r < 8)) (λ r c. r < 8) a c e
       (λ r c v w h k. inl (λ e. omega (arith, h, k.0)))
       (λ r c hr hc h. elim (cases_lt r 4) [ inl up ↦ inl up | inr down ↦ inr (omega arith, h) ])

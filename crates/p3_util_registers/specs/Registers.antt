@@ -89,10 +89,11 @@ pub record ColumnsPut {A : Type 0} (from to : ℕ) (block : Block) (input old ne
   pub places : (r c : ℕ) → r < block.rows → from ≤ c → c < to → slice_get new (block.to + c * block.height + r) ≡ slice_get input (block.from + r * block.width + c)
   pub others : (p : ℕ) → ((r c : ℕ) → r < block.rows → from ≤ c → c < to → p ≢ block.to + c * block.height + r) → slice_get new p ≡ slice_get old p
 
--- The item in row r and column c is one of the first n items, counted row after row, of a square of 4 by 4 items of a tile
--- that begins in row `row` and column `col`
+-- The item in row r and column c is one of the first n items, counted diagonal after diagonal, of a square of 4 by 4 items of a
+-- tile that begins in row `row` and column `col`. Diagonal d has the items of rows 0 to 3 in columns d, d + 1, d + 2 and d + 3
+-- modulo 4
 abbrev pub IsSquareOf : (row col n : ℕ) → ℕ → ℕ → Type 0
-IsSquareOf row col n r c = (row ≤ r) × ((col ≤ c) × ((c < col + 4) × (4 * (r - row) + (c - col) < n)))
+IsSquareOf row col n r c = (row ≤ r) × ((col ≤ c) × ((c < col + 4) × ((r < row + 4) × (4 * ((c - col + 4 - (r - row)) % 4) + (r - row) < n))))
 
 -- Some items of the tile at `x` are exchanged with their mirror images in the tile at `y`. All other items stay where they are
 pub record ItemsExchanged {A : Type 0} (some : ℕ → ℕ → Type 0) (x y : List ℕ) (old new : List A) : Type 0 where

@@ -65,7 +65,10 @@ fn exchange_singly<M: Places>(list: &mut M, x: [usize; 8], y: [usize; 8])
     exchange_square(list, x, y, 4, 4);
 }
 
-/// Exchanges the square of 4 by 4 items of a tile from row `row` and column `col` on, with its mirror image in another tile.
+/// Exchanges the square of 4 by 4 items of a tile from row `row` and column `col` on, with its mirror image in another tile: by
+/// its diagonals, of which all but the first go on at the other side of the square. The rows of a tile often begin at distances
+/// of whole pages. A processor compares the last 12 bits of addresses first, so a load from one row waits for a store to the same
+/// column of another one. Items of a diagonal are in different rows and columns.
 #[inline(always)]
 fn exchange_square<M: Places>(list: &mut M, x: [usize; 8], y: [usize; 8], row: usize, col: usize)
     requires tiles { AreTiles x y (length (M.items list.old)) }
@@ -75,8 +78,9 @@ fn exchange_square<M: Places>(list: &mut M, x: [usize; 8], y: [usize; 8], row: u
     ensures holder { M.same_holder 16 list.old list.new }
 {
     let _len = list.len();
-    for r in 0..4 {
-        for c in 0..4 {
+    for d in 0..4 {
+        for r in 0..4 {
+            let c = (r + d) % 4;
             list.exchange(x[row + r] + (col + c), y[col + c] + (row + r));
         }
     }

@@ -3,8 +3,8 @@ use Rattle.std.proofs.Common.{refl, arith}
 use Rattle.p3_util_registers.proofs.RegistersSquares.{ItemsExchanged-more}
 use Rattle.p3_util_registers.proofs.registers.tiles.exchange_square.Goals as goal
 
-pub loop-c-preserved : goal.loop-c-preserved
-loop-c-preserved g c = record {
-  exchanged = ItemsExchanged-more _ _ _ c.requires.tiles c.args.row c.args.col c.loop-r.r c.loop-c.c _ _ _ refl c.requires.row c.requires.col (omega arith) (omega arith) c.loop-c.invariant.exchanged c.exchange.ensures.exchanged;
-  holder = g.met.M.Places.same_holder_trans _ _ _ _ _ _ c.loop-c.invariant.holder c.exchange.ensures.holder (omega arith);
+pub loop-r-preserved : goal.loop-r-preserved
+loop-r-preserved g c = record {
+  exchanged = ItemsExchanged-more _ _ _ c.requires.tiles c.args.row c.args.col c.loop-d.d c.loop-r.r _ _ _ refl c.requires.row c.requires.col (omega arith) (omega arith) c.loop-r.invariant.exchanged c.exchange.ensures.exchanged;
+  holder = g.met.M.Places.same_holder_trans _ _ _ _ _ _ c.loop-r.invariant.holder c.exchange.ensures.holder (omega arith);
 }
