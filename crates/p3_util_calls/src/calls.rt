@@ -8,8 +8,8 @@ ghost use Rattle.p3_util_kernels.specs.SwapCounts.{row_swaps};
 ghost use Rattle.p3_util_kernels.specs.Transpose.{IsTranspose};
 
 use crate::choice::{
-    LONG_BYTES, Limits, SEVERAL_COLUMNS, SHORT_COLUMN, few_items_of, has_lines, row_blocks_of,
-    side_of, strips_of,
+    EIGHT_ROWS, LONG_BYTES, Limits, SEVERAL_COLUMNS, SHORT_COLUMN, few_items_of, has_eight_rows,
+    has_lines, row_blocks_of, side_of, strips_of,
 };
 use crate::lines::Lines;
 use p3_util_kernels::kernel::{
@@ -224,6 +224,10 @@ fn put_region<M: Output, R: Ahead<Item = M::Item> + Copy>(
         if let Some(blocks) = row_blocks_of(size, width, height) {
             return columns_at_a_time(blocks).put(cells, matrix, region);
         }
+    }
+    if has_eight_rows(size, M::SIDE, width, height) {
+        let strips = InRows::<EIGHT_ROWS, _, _>(Columns, Columns);
+        return columns_at_a_time(strips).put(cells, matrix, region);
     }
     // The side is a constant, so that an instance has no code for other squares.
     match M::SIDE {

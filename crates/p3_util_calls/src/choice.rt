@@ -16,6 +16,7 @@
 //! | 1 or 2 bytes | high, by blocks of 8 by 8 | a register holds one or two rows of such a block |
 //! | 4 or 8 bytes | high, by blocks of 4 by 4. On aarch64, by blocks of 8 by 8 | a register holds a row of 4, or half a row. See [`side_of`] |
 //! | 1 KiB and more | of 16 rows, column after column, each item by a function of its own | in a build without optimization, other functions would have copies of it on the stack |
+//! | less than 8 bytes, not by blocks, where [`has_eight_rows`] says so | of 8 rows, column after column | their lines stay in the first-level cache |
 //! | all others | lowest if 16 divides the width, otherwise low, column after column | see [`strips_of`] |
 //!
 //! Items are put past the caches on x86-64, and by blocks where they are transposed in registers. Elsewhere these rows fit no
@@ -45,7 +46,16 @@ const VECTOR: usize = 16;
 /// A list of more bytes and its transpose do not fit together in a cache of 1 MiB, which is of the second level.
 const FAR_LIST: usize = 1 << 19;
 
-/// Where each index is tested, a matrix with columns of so many bytes is put by blocks of 16 rows.
+/// The rows of a strip of short items whose rows have whole pages.
+pub(crate) const EIGHT_ROWS: usize = 8;
+
+/// Items of fewer bytes are short.
+const SHORT_BYTES: usize = 8;
+
+/// The bytes of a page. The lines at the same place of several pages lie in one set of the first-level cache.
+const PAGE: usize = 1 << 12;
+
+/// A column of so many bytes is long. Where each index is tested, a matrix with long columns is put by blocks of 16 rows.
 const LONG_COLUMN: usize = 1 << 9;
 
 /// From how many bytes on a matrix is put past the caches.
@@ -100,6 +110,17 @@ pub(crate) fn strips_of<const SIDE: usize>(width: usize) -> Strips<SIDE, HIGH_RO
     } else {
         Strips::Low
     }
+}
+
+/// Whether strips have eight rows: those of short items without squares, whose rows have whole pages and whose columns are not
+/// long. A line has many short items, and has to stay in the first-level cache until they are read. A set has room for the lines
+/// of 8 rows, and seldom for those of more. In long columns, twice as many parts of a line are stored, which takes longer.
+#[inline(always)]
+pub(crate) fn has_eight_rows(size: usize, side: usize, width: usize, height: usize) -> bool {
+    side == 1
+        && size < SHORT_BYTES
+        && width.wrapping_mul(size) % PAGE == 0
+        && height.wrapping_mul(size) < LONG_COLUMN
 }
 
 /// Where each index is tested, a matrix is put by blocks of several rows instead of columns and strips. The holder tests each
