@@ -5,6 +5,7 @@ use crate::fault::RunFault;
 use crate::program::run;
 use crate::watched::Watched;
 use std::alloc::{AllocError, Global};
+use std::fmt::Debug;
 use std::io::{ErrorKind, Read, Write};
 use std::process::Abort;
 use std::{io, str};
@@ -93,6 +94,12 @@ fn shown(bytes: &[u8]) -> &str {
     str::from_utf8(bytes).unwrap_or("bytes that are no UTF-8")
 }
 
+/// Asserts that `got` is `wanted`, in a run of this row.
+fn same<T: PartialEq + Debug>(rt: &impl Abort, row: &Row, got: &T, wanted: &T) {
+    let (words, input, _, _) = *row;
+    assert_eq!(rt; *got, *wanted, "{words:?} on {}", shown(input));
+}
+
 /// Asserts that a run wrote the output of its row, or that it wrote nothing and its fault has this
 /// text and status.
 fn check_printed(
@@ -102,55 +109,56 @@ fn check_printed(
     ended: &Result<(), RunFault>,
     written: &[u8],
 ) -> Result<(), AllocError> {
-    let (words, input, output, status) = *row;
+    let (_, _, output, status) = *row;
     let (got, text) = match ended {
         Ok(()) => (0, String::from_str(alloc, shown(written))?),
         Err(fault) => (fault.status(), fault.to_string(alloc)?),
     };
-    assert_eq!(rt;
-        (got, text.as_str()),
-        (status, output),
-        "{words:?} on {}",
-        shown(input)
-    );
-    assert!(rt;
-        got == 0 || written.is_empty(),
-        "{words:?} on {}",
-        shown(input)
-    );
+    same(rt, row, &(got, text.as_str()), &(status, output));
+    same(rt, row, &(got == 0 || written.is_empty()), &true);
     Ok(())
+}
+
+/// A reader of `rest`, with the other fields given.
+fn reader(rest: &[u8], good_calls: u8, failure: Option<ErrorKind>) -> Watched<ByteReader<'_>> {
+    Watched::new(ByteReader {
+        rest,
+        good_calls,
+        failure,
+    })
+}
+
+/// A writer that has taken nothing yet.
+fn writer(alloc: Global, good_calls: u8, failure: Option<ErrorKind>) -> Watched<ByteWriter> {
+    Watched::new(ByteWriter {
+        taken: Vec::new(alloc),
+        good_calls,
+        failure,
+    })
 }
 
 /// Asserts what is printed for a row, from memory and by one byte a call.
 fn check_row(rt: &impl Abort, alloc: Global, row: &Row) -> Result<(), AllocError> {
     let (words, input, _, _) = *row;
     let words = owned(alloc, words)?;
-    let mut writer = Watched::new(Vec::new(alloc));
-    let mut reader = Watched::new(input);
-    let result = run(alloc, &words, &mut reader, &mut writer);
-    check_printed(rt, alloc, row, &result, &writer.into_inner())?;
+    let mut output = Watched::new(Vec::new(alloc));
+    let result = run(alloc, &words, &mut Watched::new(input), &mut output);
+    check_printed(rt, alloc, row, &result, &output.into_inner())?;
 
-    let mut reader = Watched::new(ByteReader {
-        rest: input,
-        good_calls: u8::MAX,
-        failure: None,
-    });
-    let mut writer = Watched::new(ByteWriter {
-        taken: Vec::new(alloc),
-        good_calls: u8::MAX,
-        failure: None,
-    });
-    let result = run(alloc, &words, &mut reader, &mut writer);
-    check_printed(rt, alloc, row, &result, &writer.into_inner().taken)
+    let mut output = writer(alloc, u8::MAX, None);
+    let result = run(
+        alloc,
+        &words,
+        &mut reader(input, u8::MAX, None),
+        &mut output,
+    );
+    check_printed(rt, alloc, row, &result, &output.into_inner().taken)
 }
 
 const NOT_AN_ARRAY: &str = "error: input is not a JSON array of u64";
 
-const UNKNOWN: &str = "error: unknown command";
-
-/// The rows: reversals, reversals of rows, transposes, arguments that name no command, and inputs
-/// that are no array of numbers.
-const ROWS: [Row; 55] = [
+/// Reversals, reversals of rows, and transposes.
+const ROWS: [Row; 25] = [
     (&["revbits"], b"[]", "[]\n", 0),
     (&["revbits"], b"[7]", "[7]\n", 0),
     (&["revbits"], b" [ 1 , 2 ] ", "[1,2]\n", 0),
@@ -218,9 +226,6 @@ const ROWS: [Row; 55] = [
         2,
     ),
     (&["revrows", "1"], b"[1,", NOT_AN_ARRAY, 2),
-    (&["revrows", "x"], b"[]", UNKNOWN, 2),
-    (&["revrows", ""], b"[]", UNKNOWN, 2),
-    (&["revrows", "18446744073709551616"], b"[]", UNKNOWN, 2),
     (
         &["transpose", "3", "2"],
         b"[1,2,3,4,5,6]",
@@ -258,39 +263,45 @@ const ROWS: [Row; 55] = [
         "error: 18446744073709551615 by 2 is not the length 0",
         2,
     ),
-    (&["transpose", "2", "x"], b"[]", UNKNOWN, 2),
-    (&["transpose", "+1", "1"], b"[1]", UNKNOWN, 2),
-    (&["transpose", "1", ""], b"[]", UNKNOWN, 2),
-    (
-        &["transpose", "18446744073709551616", "1"],
-        b"[]",
-        UNKNOWN,
-        2,
-    ),
     (&["transpose", "1", "1"], b"[1.0]", NOT_AN_ARRAY, 2),
-    (&[], b"[1]", UNKNOWN, 2),
-    (&["revbits", "x"], b"[1]", UNKNOWN, 2),
-    (&["revrows"], b"[1]", UNKNOWN, 2),
-    (&["revrows", "1", "1"], b"[1]", UNKNOWN, 2),
-    (&["Revbits"], b"[1]", UNKNOWN, 2),
-    (&["transpose", "1"], b"[1]", UNKNOWN, 2),
-    (&["revbits", "1", "1"], b"[1]", UNKNOWN, 2),
-    (&["transpose", "1", "1", "1"], b"[1]", UNKNOWN, 2),
-    (&["revbits"], b"", NOT_AN_ARRAY, 2),
-    (&["revbits"], b"[1,2", NOT_AN_ARRAY, 2),
-    (&["revbits"], b"[-1]", NOT_AN_ARRAY, 2),
-    (&["revbits"], b"[1.5]", NOT_AN_ARRAY, 2),
-    (&["revbits"], b"[1.0]", NOT_AN_ARRAY, 2),
-    (&["revbits"], b"[[1]]", NOT_AN_ARRAY, 2),
-    (&["revbits"], b"[1,2]x", NOT_AN_ARRAY, 2),
-    (&["revbits"], b"{\"a\":1}", NOT_AN_ARRAY, 2),
-    (&["revbits"], b"[1,\"2\"]", NOT_AN_ARRAY, 2),
-    (&["revbits"], b"[1,]", NOT_AN_ARRAY, 2),
-    (&["revbits"], b"1", NOT_AN_ARRAY, 2),
-    (&["revbits"], b"[18446744073709551616]", NOT_AN_ARRAY, 2),
-    (&["revbits"], b"[true]", NOT_AN_ARRAY, 2),
-    (&["revbits"], &[0xff], NOT_AN_ARRAY, 2),
-    (&["revbits"], &[b'['; 200], NOT_AN_ARRAY, 2),
+];
+
+/// Arguments that name no command.
+const UNKNOWN: [&[&str]; 15] = [
+    &["revrows", "x"],
+    &["revrows", ""],
+    &["revrows", "18446744073709551616"],
+    &["transpose", "2", "x"],
+    &["transpose", "+1", "1"],
+    &["transpose", "1", ""],
+    &["transpose", "18446744073709551616", "1"],
+    &[],
+    &["revbits", "x"],
+    &["revrows"],
+    &["revrows", "1", "1"],
+    &["Revbits"],
+    &["transpose", "1"],
+    &["revbits", "1", "1"],
+    &["transpose", "1", "1", "1"],
+];
+
+/// Inputs that are no array of numbers.
+const NO_ARRAYS: [&[u8]; 15] = [
+    b"",
+    b"[1,2",
+    b"[-1]",
+    b"[1.5]",
+    b"[1.0]",
+    b"[[1]]",
+    b"[1,2]x",
+    b"{\"a\":1}",
+    b"[1,\"2\"]",
+    b"[1,]",
+    b"1",
+    b"[18446744073709551616]",
+    b"[true]",
+    &[0xff],
+    &[b'['; 200],
 ];
 
 /// A `run` that always returns `Memory` fails here.
@@ -298,6 +309,26 @@ const ROWS: [Row; 55] = [
 fn rows(rt: HostRuntime) -> Result<(), AllocError> {
     for row in &ROWS {
         check_row(&rt, rt.alloc(), row)?;
+    }
+    Ok(())
+}
+
+#[test]
+fn unknown_commands(rt: HostRuntime) -> Result<(), AllocError> {
+    for &words in &UNKNOWN {
+        check_row(
+            &rt,
+            rt.alloc(),
+            &(words, b"[]", "error: unknown command", 2),
+        )?;
+    }
+    Ok(())
+}
+
+#[test]
+fn no_arrays(rt: HostRuntime) -> Result<(), AllocError> {
+    for &input in &NO_ARRAYS {
+        check_row(&rt, rt.alloc(), &(&["revbits"], input, NOT_AN_ARRAY, 2))?;
     }
     Ok(())
 }
@@ -322,39 +353,33 @@ fn check_failure(rt: &impl Abort, alloc: Global, failing: Failing) -> Result<usi
         fault,
         failures,
     } = failing;
-    let mut reader = Watched::new(ByteReader {
-        rest: b"[1,2]",
-        good_calls: good_reads,
-        failure,
-    });
-    let mut writer = Watched::new(ByteWriter {
-        taken: Vec::new(alloc),
-        good_calls: good_writes,
-        failure,
-    });
+    let mut reader = reader(b"[1,2]", good_reads, failure);
+    let mut writer = writer(alloc, good_writes, failure);
     let words = owned(alloc, &["revbits"])?;
     let result = run(alloc, &words, &mut reader, &mut writer);
     let calls = (good_reads, good_writes);
-    assert_eq!(rt; result, Err(fault), "after {calls:?} calls");
-    assert_eq!(rt;
-        (reader.failures(), writer.failures()),
-        failures,
-        "after {calls:?} calls"
+    after(rt, calls, &result, &Err(fault));
+    after(
+        rt,
+        calls,
+        &(reader.failures(), writer.failures()),
+        &failures,
     );
     let (reader, writer) = (reader.into_inner(), writer.into_inner());
-    assert_eq!(rt;
-        (reader.good_calls == u8::MAX, writer.good_calls),
-        (failures.0 == 1, u8::MAX),
-        "after {calls:?} calls"
-    );
+    let has_failed = (reader.good_calls == u8::MAX, writer.good_calls == u8::MAX);
+    after(rt, calls, &has_failed, &(failures.0 == 1, true));
     Ok(writer.taken.len())
 }
 
+/// Asserts that `got` is `wanted`, if so many calls of a reader and of a writer succeed.
+fn after<T: PartialEq + Debug>(rt: &impl Abort, calls: (u8, u8), got: &T, wanted: &T) {
+    assert_eq!(rt; *got, *wanted, "after {calls:?} calls");
+}
+
 /// A `Watched` that calls again after an error, counted or not, or that fails without a call, fails
-/// here.
+/// here and in the next test.
 #[test]
-fn failures(rt: HostRuntime) -> Result<(), AllocError> {
-    let alloc = rt.alloc();
+fn failures_of_reads(rt: HostRuntime) -> Result<(), AllocError> {
     for kind in [ErrorKind::Other, ErrorKind::Interrupted] {
         for calls in 0..6 {
             let failing = Failing {
@@ -364,10 +389,15 @@ fn failures(rt: HostRuntime) -> Result<(), AllocError> {
                 fault: RunFault::Read,
                 failures: (1, 0),
             };
-            let written = check_failure(&rt, alloc, failing)?;
+            let written = check_failure(&rt, rt.alloc(), failing)?;
             assert_eq!(rt; written, 0);
         }
     }
+    Ok(())
+}
+
+#[test]
+fn failures_of_writes(rt: HostRuntime) -> Result<(), AllocError> {
     for failure in [Some(ErrorKind::Other), Some(ErrorKind::Interrupted), None] {
         for calls in 0..7 {
             let failing = Failing {
@@ -377,7 +407,7 @@ fn failures(rt: HostRuntime) -> Result<(), AllocError> {
                 fault: RunFault::Write,
                 failures: (0, 1),
             };
-            let written = check_failure(&rt, alloc, failing)?;
+            let written = check_failure(&rt, rt.alloc(), failing)?;
             assert_eq!(rt; written, usize::from(calls));
         }
     }
