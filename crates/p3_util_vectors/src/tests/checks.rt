@@ -2,7 +2,7 @@
 //! about what they return or change, and stays short.
 
 use crate::tests::items::Item;
-use std::alloc::{AllocError, Global};
+use std::alloc::Global;
 use std::fmt::Debug;
 use std::process::Abort;
 
@@ -68,9 +68,9 @@ pub(crate) fn check_transposed<T: Item>(rt: &impl Abort, list: &[T], shape: Shap
     }
 }
 
-/// The value of a request for memory, which must succeed.
-pub(crate) fn found<T>(rt: &impl Abort, asked: Result<T, AllocError>) -> T {
-    asked.expect(rt, "out of memory")
+/// The value of a call that must not be refused, for want of memory or another reason.
+pub(crate) fn found<T, E: Drop>(rt: &impl Abort, asked: Result<T, E>) -> T {
+    asked.ok().expect(rt, "refused")
 }
 
 /// The numbers from 0 to below `count`.

@@ -121,18 +121,13 @@ fn new_and_known_keys(rt: HostRuntime) {
             called.set(called.get().wrapping_add(1));
             given
         };
-        match map.get_or_insert_with(key, give) {
-            Ok(value) => equal(&rt, value, &wanted),
-            Err(_) => panic!(rt; "no room"),
-        }
+        let value = found(&rt, map.get_or_insert_with(key, give));
+        equal(&rt, value, &wanted);
         equal(&rt, &called.get(), &calls);
     }
     let mut map = LinearMap::new(rt.alloc());
     for (name, value, old) in [("Key", 1u32, None), ("KEY", 2, Some(1))] {
-        match map.insert(Spelling(name), value) {
-            Ok(answer) => equal(&rt, &answer, &old),
-            Err(_) => panic!(rt; "no room"),
-        }
+        equal(&rt, &found(&rt, map.insert(Spelling(name), value)), &old);
     }
     equal(&rt, &map.get(&Spelling("kEy")).copied(), &Some(2));
     equal(&rt, &map.keys().next().map(|key| key.0), &Some("Key"));

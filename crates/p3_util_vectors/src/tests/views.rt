@@ -128,9 +128,7 @@ fn there_and_back<const N: usize>(rt: &impl Abort, alloc: Global, wanted: &[[u64
 {
     let items = numbers(rt, alloc, wanted.len().saturating_mul(N));
     assert!(rt; items.len() % N == 0);
-    let Ok(rows) = reconstitute_from_base::<u64, N>(alloc, items) else {
-        panic!(rt; "no room for the arrays");
-    };
+    let rows = found(rt, reconstitute_from_base::<u64, N>(alloc, items));
     equal(rt, &rows.as_slice(), &wanted);
     check_flattened(rt, alloc, rows, wanted.len().saturating_mul(N));
 }
@@ -143,9 +141,7 @@ fn check_flattened<const N: usize>(
     count: usize,
 ) {
     assert!(rt; flat_len(rows.len(), N).is_some());
-    let Ok(items) = flatten_to_base(alloc, rows) else {
-        panic!(rt; "no room for the items");
-    };
+    let items = found(rt, flatten_to_base(alloc, rows));
     equal(rt, &items.as_slice(), &numbers(rt, alloc, count).as_slice());
 }
 

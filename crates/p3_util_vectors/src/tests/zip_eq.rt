@@ -1,6 +1,6 @@
 //! The zip of two lists of one length.
 
-use crate::tests::checks::{equal, same};
+use crate::tests::checks::{equal, found, same};
 use p3_util::zip_eq::zip_eq;
 use std::fmt::Debug;
 use std::process::Abort;
@@ -12,9 +12,10 @@ fn check_pairs<A: Copy + PartialEq + Debug, B: Copy + PartialEq + Debug>(
     second: &[B],
     wanted: &[(A, B)],
 ) {
-    let Ok(mut pairs) = zip_eq(first.iter().copied(), second.iter().copied(), ()) else {
-        panic!(rt; "the lengths agree");
-    };
+    let mut pairs = found(
+        rt,
+        zip_eq(first.iter().copied(), second.iter().copied(), ()),
+    );
     for (place, pair) in wanted.iter().enumerate() {
         let left = wanted.len().saturating_sub(place);
         same(rt, place, &pairs.len(), &left);
