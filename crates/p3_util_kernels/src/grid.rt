@@ -125,6 +125,23 @@ impl Grid {
             middle + one + two,
         ]
     }
+
+    /// The rows of the tile at row `x` and column `y`, and those of its mirror image. Row `x` begins at
+    /// place `first`, and row `y` at place `start`.
+    #[inline(always)]
+    fn tile_pair(self, x: usize, y: usize, first: usize, start: usize) -> ([usize; 8], [usize; 8])
+        requires fits { PlacesFit self }
+        requires whole_x { x % 8 ≡ 0 }
+        requires whole_y { y % 8 ≡ 0 }
+        requires x_below { x + 8 ≤ 2 ^ self.digits }
+        requires y_below { y + 8 ≤ 2 ^ self.digits }
+        requires first { first ≡ row_place self x }
+        requires start { start ≡ row_place self y }
+        ensures rows { (t : ℕ) → t < 8 → slice_index result.0 t ≡ row_place self (x + t) + y }
+        ensures cols { (t : ℕ) → t < 8 → slice_index result.1 t ≡ row_place self (y + t) + x }
+    {
+        (self.tile_rows(first + y), self.tile_rows(start + x))
+    }
 }
 
 /// Exchanges the runs of `width` items with the indices `i` and `j`.
@@ -188,10 +205,9 @@ fn exchange_tile_column<M: Tiled>(m: M, grid: Grid, col: usize, region: Region) 
         let next = tile * TILE + TILE;
         // After the last tile the next one is below the region, and within the grid too.
         let below = grid.start(next);
-        let next_rows = grid.tile_rows(below + col);
-        m.expect_tiles(next_rows, grid.tile_rows(start + next));
-        let rows = grid.tile_rows(first + col);
-        let cols = grid.tile_rows(start + tile * TILE);
+        let (next_rows, next_cols) = grid.tile_pair(next, col, below, start);
+        m.expect_tiles(next_rows, next_cols);
+        let (rows, cols) = grid.tile_pair(tile * TILE, col, first, start);
         m.exchange_tiles(rows, cols);
         first = below;
     }

@@ -5,8 +5,8 @@
 //! 16 items, a proof has to show that their bytes fit in memory, which it cannot show for the items
 //! of an arbitrary source.
 
-ghost use Rattle.std.specs.Prelude.{[], ◌∷◌};
-ghost use Rattle.p3_util_kernels.specs.Stages.{IsBlockTransposed, IsStageOne, IsStageTwo};
+ghost use Rattle.std.specs.Prelude.{[], ◌∷◌, ℕ, ◌≡◌, ◌+◌, ◌*◌, ◌<◌};
+ghost use Rattle.p3_util_kernels.specs.Stages.{IsBlockTransposed, IsStageOne, IsStageTwo, item_at};
 
 /// The transpose of a block: the item in row r and column c of the result comes from row c and
 /// column r.
@@ -22,7 +22,9 @@ pub fn butterfly_stage1<T: Copy>(block: [[T; 4]; 4]) -> [[T; 4]; 4]
     ensures { IsStageOne block result }
 {
     let [a, b, c, d] = block;
-    stage1_of_rows(a, b, c, d)
+    let [w, x] = stage1_of_rows(a, b);
+    let [y, z] = stage1_of_rows(c, d);
+    [w, x, y, z]
 }
 
 /// Exchanges the higher bit of the row number with the higher bit of the column number.
@@ -35,17 +37,12 @@ pub fn butterfly_stage2<T: Copy>(block: [[T; 4]; 4]) -> [[T; 4]; 4]
     stage2_of_rows(a, b, c, d)
 }
 
-/// Exchanges the items in the odd columns of rows 0 and 2 with those in the even columns of rows 1
-/// and 3.
-fn stage1_of_rows<T: Copy>(a: [T; 4], b: [T; 4], c: [T; 4], d: [T; 4]) -> [[T; 4]; 4]
-    ensures { IsStageOne (a ∷ b ∷ c ∷ d ∷ []) result }
+/// Exchanges the items in the odd columns of row `a` with those in the even columns of row `b`.
+fn stage1_of_rows<T: Copy>(a: [T; 4], b: [T; 4]) -> [[T; 4]; 2]
+    ensures { (p Q q : ℕ) → p < 2 → Q < 2 → q < 2
+        → item_at result p (2 * Q + q) ≡ item_at (a ∷ b ∷ []) q (2 * Q + p) }
 {
-    [
-        [a[0], b[0], a[2], b[2]],
-        [a[1], b[1], a[3], b[3]],
-        [c[0], d[0], c[2], d[2]],
-        [c[1], d[1], c[3], d[3]],
-    ]
+    [[a[0], b[0], a[2], b[2]], [a[1], b[1], a[3], b[3]]]
 }
 
 /// Makes two rows from rows 0 and 2: one of their first halves, and one of their second halves.

@@ -16,7 +16,9 @@ pub fn butterfly_4x4<T: Copy>(block: [[T; 4]; 4]) -> [[T; 4]; 4] {
 /// transposes each of the four squares of 2 by 2 items.
 pub fn butterfly_stage1<T: Copy>(block: [[T; 4]; 4]) -> [[T; 4]; 4] {
     let [a, b, c, d] = block;
-    stage1_of_rows(a, b, c, d)
+    let [w, x] = stage1_of_rows(a, b);
+    let [y, z] = stage1_of_rows(c, d);
+    [w, x, y, z]
 }
 
 /// Exchanges the higher bit of the row number with the higher bit of the column number.
@@ -27,15 +29,9 @@ pub fn butterfly_stage2<T: Copy>(block: [[T; 4]; 4]) -> [[T; 4]; 4] {
     stage2_of_rows(a, b, c, d)
 }
 
-/// Exchanges the items in the odd columns of rows 0 and 2 with those in the even columns of rows 1
-/// and 3.
-fn stage1_of_rows<T: Copy>(a: [T; 4], b: [T; 4], c: [T; 4], d: [T; 4]) -> [[T; 4]; 4] {
-    [
-        [a[0], b[0], a[2], b[2]],
-        [a[1], b[1], a[3], b[3]],
-        [c[0], d[0], c[2], d[2]],
-        [c[1], d[1], c[3], d[3]],
-    ]
+/// Exchanges the items in the odd columns of row `a` with those in the even columns of row `b`.
+fn stage1_of_rows<T: Copy>(a: [T; 4], b: [T; 4]) -> [[T; 4]; 2] {
+    [[a[0], b[0], a[2], b[2]], [a[1], b[1], a[3], b[3]]]
 }
 
 /// Makes two rows from rows 0 and 2: one of their first halves, and one of their second halves.

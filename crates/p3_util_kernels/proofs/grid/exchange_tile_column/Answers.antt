@@ -10,8 +10,7 @@ loop-tile-preserved g c =
     let row = c.loop-tile.tile * 8 in
     let next : (c.loop-tile.tile + 1) * 8 ≡ row + 8 = omega arith in
     let done : Region = record c.args.region { row_end = row + 8; col_start = c.args.col; col_end = c.args.col + 8 } in
-    let tile = SwapsInGrid-tile c.args.grid _ c.requires.ready row c.args.col _ _ _ _ c.requires.one (omega arith) c.requires.within (c.tile_rows-rows.ensures row c.args.col (omega arith) (omega arith) (omega arith))
-    (c.tile_rows-cols.ensures c.args.col row c.requires.whole_col c.requires.within (omega arith)) c.exchange_tiles.ensures.exchanged in
+    let tile = SwapsInGrid-tile c.args.grid _ c.requires.ready row c.args.col _ _ _ _ c.requires.one (omega arith) c.requires.within c.tile_pair-in-loop-tile.ensures.rows c.tile_pair-in-loop-tile.ensures.cols c.exchange_tiles.ensures.exchanged in
     record {
       first = rw next c.start-below.ensures;
       exchanged = rw next (cut_exchanged c.args.grid _ c.requires.ready done _ _ _ _ _ (IsCut-rows done row (omega arith) (omega arith)) c.loop-tile.invariant.exchanged tile);
@@ -24,14 +23,4 @@ returns-clause-exchanged g c = let end : c.loop-tile.tile * 8 ≡ c.args.region.
 pub exchange_tiles-requires : goal.exchange_tiles-requires
 exchange_tiles-requires g c =
     let row = c.loop-tile.tile * 8 in
-    rw c.loop-tile.invariant.exchanged.same_length (AreTiles-grid c.args.grid _ c.requires.ready row c.args.col _ _ c.requires.one (omega arith) c.requires.within (c.tile_rows-rows.ensures row c.args.col (omega arith) (omega arith) (omega arith))
-    (c.tile_rows-cols.ensures c.args.col row c.requires.whole_col c.requires.within (omega arith)))
-
--- the places of this tile and of the next one are in the first rows of these tiles
-pub tile_rows-rows-requires-clause-tile : goal.tile_rows-rows-requires-clause-tile
-tile_rows-rows-requires-clause-tile g c =
-    record { x = c.loop-tile.tile * 8; y = c.args.col; whole = omega arith; x_below = omega arith; y_below = omega arith; is = omega arith }
-
-pub tile_rows-next_rows-requires-clause-tile : goal.tile_rows-next_rows-requires-clause-tile
-tile_rows-next_rows-requires-clause-tile g c =
-    record { x = c.loop-tile.tile * 8 + 8; y = c.args.col; whole = omega arith; x_below = omega (arith, c.requires.whole_end); y_below = omega arith; is = omega arith }
+    rw c.loop-tile.invariant.exchanged.same_length (AreTiles-grid c.args.grid _ c.requires.ready row c.args.col _ _ c.requires.one (omega arith) c.requires.within c.tile_pair-in-loop-tile.ensures.rows c.tile_pair-in-loop-tile.ensures.cols)
