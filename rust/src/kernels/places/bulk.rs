@@ -15,7 +15,7 @@ use crate::kernels::places::{Cells, Places, Source, Swaps, Writes, len_fits};
 ///
 /// The item in row r and column c of the block is at index `from + r * width + c` of a source. In
 /// the transpose, it belongs into cell `to + c * height + r`.
-#[derive(Clone, Copy, Debug, PartialEq, Eq)]
+#[derive(Clone, Copy)]
 pub(crate) struct Block {
     /// The number of rows of the block.
     pub rows: usize,
