@@ -193,6 +193,7 @@ fn exchange_tile_column<M: Tiled>(m: M, grid: Grid, col: usize, region: Region) 
     requires whole_col { col % 8 ≡ 0 }
     requires above { region.row_end ≤ col }
     requires within { col + 8 ≤ 2 ^ grid.digits }
+    requires fits { PlacesFit grid }
     requires ready { HoldsGrid grid (M.items m) }
     ensures exchanged { SwapsInGrid grid (record region { col_start = col; col_end = col + 8 })
         (M.items m) (M.items result) }

@@ -1,7 +1,6 @@
 -- Each turn of the inner loop exchanges one more place of a row to the right of the diagonal, and each
 -- turn of the outer loop one more row.
 use Rattle.std.proofs.Common.{◌≡◌, ◌+◌, ◌-◌, ◌*◌, ◌∙◌, slice_index, suc, refl, arith}
-use Rattle.std.proofs.lemmas.Grind.{common_steps}
 use Rattle.p3_util_kernels.specs.declared.transpose.regions.Region.{Region}
 use Rattle.p3_util_kernels.specs.Grid.{row_place}
 use Rattle.p3_util_kernels.specs.SwapCounts.{square_swaps}
@@ -10,10 +9,10 @@ use Rattle.p3_util_kernels.proofs.GridLemmas.Pairs.{square_swaps-next}
 use Rattle.p3_util_kernels.proofs.grid.exchange_diagonal_tile.Goals as goal
 
 pub overflow_add-start : goal.overflow_add-start
-overflow_add-start g c = grind (arith, common_steps)
+overflow_add-start g c = omega (arith, c.start.ensures, (grid_fits c.args.grid _ c.requires.ready).rows c.args.start (omega arith))
 
 pub tile_rows-places-requires-clause-fits : goal.tile_rows-places-requires-clause-fits
-tile_rows-places-requires-clause-fits g c = grind (arith, common_steps)
+tile_rows-places-requires-clause-fits g c = grid_fits c.args.grid _ c.requires.ready
 
 -- single items
 pub turn_tile-requires : goal.turn_tile-requires

@@ -2,7 +2,7 @@
 use Rattle.std.proofs.Common.{◌≡◌, ◌+◌, ◌-◌, ◌*◌, arith}
 use Rattle.p3_util_kernels.specs.declared.transpose.regions.Region.{Region}
 use Rattle.p3_util_kernels.specs.Region.{rows_of}
-use Rattle.p3_util_kernels.proofs.GridLemmas.Parts.{cut_exchanged}
+use Rattle.p3_util_kernels.proofs.GridLemmas.Parts.{cut_exchanged, grid_fits}
 use Rattle.p3_util_kernels.proofs.TransposeLemmas.Region.{IsCut-cols}
 use Rattle.p3_util_kernels.proofs.grid.exchange_leaf_tiles.Goals as goal
 
@@ -20,3 +20,6 @@ loop-tile-preserved g c =
 
 pub returns-clause-exchanged : goal.returns-clause-exchanged
 returns-clause-exchanged g c = let end : c.loop-tile.tile * 8 ≡ c.args.region.col_end = omega (arith, c.requires.whole_col_start, c.requires.whole_col_end) in rw end at c.loop-tile.invariant.exchanged
+
+pub exchange_tile_column-m-requires-clause-fits : goal.exchange_tile_column-m-requires-clause-fits
+exchange_tile_column-m-requires-clause-fits g c = grid_fits c.args.grid _ c.requires.ready
