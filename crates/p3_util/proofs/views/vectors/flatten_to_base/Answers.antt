@@ -1,5 +1,5 @@
 -- Each turn of the loop moves one more row. After the loop the items are those of all rows, in order.
-use Rattle.std.proofs.Common.{◌≡◌, ◌*◌, ap, length, rules, ◌∙◌, take_all, arith}
+use Rattle.std.proofs.Common.{◌≡◌, ◌+◌, ◌*◌, ◌≤◌, ap, length, rules, vec_len, ◌∙◌, take_all, mul-le-mul_right, arith}
 use Rattle.std.proofs.Math.Nat.{mul-mod_left}
 use Rattle.p3_util.specs.Flat.{flat}
 use Rattle.p3_util.proofs.Moved.{cut-more, left-more, moved-more-rows}
@@ -23,23 +23,26 @@ loop-row-preserved g c =
       room = omega arith;
     }
 
-pub returns-clause-places : goal.returns-clause-places
-returns-clause-places g c =
-    let k = c.loop-row.row-index in
-    let rows = c.args.vec.items in
-    let same : k ≡ length rows = omega (arith, c.loop-row-test.false, ap length c.deref_mut-row-items.ensures.value) in
-    let len : length c.loop-row.items.items ≡ k * g.row.N = search (rules, c.loop-row.invariant.full) in
-    IsFlat-pieces _ rows _ (len ∙ ap (λ n. n * g.row.N) same) (λ some. c.loop-row.invariant.cut some ∙ take_all k rows (omega arith))
+pub push_row-requires : goal.push_row-requires
+push_row-requires g c =
+    let times : (c.loop-row.row-index + 1) * g.row.N ≤ vec_len c.args.vec * g.row.N = mul-le-mul_right g.row.N (omega arith) in (search rules, omega (arith, times))
 
 pub returns-clause-divides : goal.returns-clause-divides
 returns-clause-divides g c = rw c.loop-row.invariant.full (mul-mod_left c.loop-row.row-index g.row.N)
 
+pub returns-clause-len : goal.returns-clause-len
+returns-clause-len g c = c.loop-row.invariant.full ∙ ap (λ k. k * g.row.N) (omega arith)
+
 pub returns-clause-items : goal.returns-clause-items
 returns-clause-items g c =
-    let rows = c.args.vec.items in
-    c.loop-row.invariant.moved ∙ ap flat (take_all c.loop-row.row-index rows (omega (arith, c.loop-row-test.false, ap length c.deref_mut-row-items.ensures.value)))
+    c.loop-row.invariant.moved ∙ ap flat (take_all c.loop-row.row-index c.args.vec.items (omega (arith, c.loop-row-test.false, ap length c.deref_mut-row-items.ensures.value)))
 
 pub returns-clause-rows : goal.returns-clause-rows
 returns-clause-rows g c some =
-    let rows = c.args.vec.items in
-    c.loop-row.invariant.cut some ∙ take_all c.loop-row.row-index rows (omega (arith, c.loop-row-test.false, ap length c.deref_mut-row-items.ensures.value))
+    c.loop-row.invariant.cut some ∙ take_all c.loop-row.row-index c.args.vec.items (omega (arith, c.loop-row-test.false, ap length c.deref_mut-row-items.ensures.value))
+
+pub returns-clause-places : goal.returns-clause-places
+returns-clause-places g c =
+    let items : length c.loop-row.items.items ≡ vec_len c.loop-row.items = search rules in
+    let rows : vec_len c.args.vec ≡ length c.args.vec.items = search rules in
+    IsFlat-pieces _ _ _ (items ∙ returns-clause-len g c ∙ ap (λ k. k * g.row.N) rows) (returns-clause-rows g c)
