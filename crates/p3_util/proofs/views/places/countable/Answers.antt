@@ -6,14 +6,10 @@ use Rattle.p3_util.proofs.views.places.countable.Goals as goal
 
 fits : (m n k : ℕ) → m ≡ max n 1 → k ≤ (2 ^ 64 - 1) / m → k * n < 2 ^ 64
 fits m n k is le =
-    let wider : k * n ≤ k * m = mul-le-mul_left k (omega arith) in
-    let more : k * m ≤ (2 ^ 64 - 1) / m * m = mul-le-mul_right m le in omega (arith, wider, more)
+    let wider : k * n ≤ k * m = mul-le-mul_left k (omega arith) in let more : k * m ≤ (2 ^ 64 - 1) / m * m = mul-le-mul_right m le in omega (arith, wider, more)
 
 pub as_flattened-requires : goal.as_flattened-requires
 as_flattened-requires g c = (search rules, λ _. fits _ _ _ c.max-most.ensures c.if-rows-most.true)
-
-pub returns-then-rows-most-clause-fits : goal.returns-then-rows-most-clause-fits
-returns-then-rows-most-clause-fits g c _ = fits _ _ _ c.max-most.ensures c.if-rows-most.true
 
 pub overflow_mul-most : goal.overflow_mul-most
 overflow_mul-most g c = omega (arith, fits c.max-most.result g.row.N ((2 ^ 64 - 1) / c.max-most.result) c.max-most.ensures (omega arith))

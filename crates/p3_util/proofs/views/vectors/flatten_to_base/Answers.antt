@@ -42,7 +42,4 @@ returns-clause-rows g c some =
     c.loop-row.invariant.cut some ∙ take_all c.loop-row.row-index c.args.vec.items (omega (arith, c.loop-row-test.false, ap length c.deref_mut-row-items.ensures.value))
 
 pub returns-clause-places : goal.returns-clause-places
-returns-clause-places g c =
-    let items : length c.loop-row.items.items ≡ vec_len c.loop-row.items = search rules in
-    let rows : vec_len c.args.vec ≡ length c.args.vec.items = search rules in
-    IsFlat-pieces _ _ _ (items ∙ returns-clause-len g c ∙ ap (λ k. k * g.row.N) rows) (returns-clause-rows g c)
+returns-clause-places g c = IsFlat-pieces _ _ _ (grind (arith, returns-clause-len g c)) (returns-clause-rows g c)

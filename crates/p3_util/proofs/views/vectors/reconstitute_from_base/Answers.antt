@@ -14,8 +14,7 @@ pub loop-preserved : goal.loop-preserved
 loop-preserved g c =
     let before = c.loop.invariant in
     let rows = c.loop.rows.items in
-    let count : length rows ≡ c.loop.counter = search (rules, before.made) in
-    let all : length c.args.vec.items ≡ vec_len c.args.vec = search rules in
+    let count : length rows ≡ c.loop.counter = search (rules, before.made) in let all : length c.args.vec.items ≡ vec_len c.args.vec = search rules in
     let parts = ap length before.moved ∙ length-append (flat rows) (into_iter_items c.loop.items) in
     let len : length (flat rows) ≡ c.loop.counter * g.row.N = omega (arith, parts, all, before.left) in record {
       moved = grind (arith, common_steps);
@@ -28,15 +27,13 @@ loop-preserved g c =
 -- a further row has its items
 enough : (total left counter n : ℕ) → left + counter * n ≡ total → counter < total / n → n ≤ left
 enough total left counter n len more =
-    let times : (counter + 1) * n ≤ total / n * n = mul-le-mul_right n (omega arith) in
-    omega (arith, div-add-mod' total n, times)
+    let times : (counter + 1) * n ≤ total / n * n = mul-le-mul_right n (omega arith) in omega (arith, div-add-mod' total n, times)
 
 -- no item is left after that many rows
 none_left : {A : Type 0} (all items left : List A) (total counter n : ℕ) → all ≡ items ++ left → length left + counter * n ≡ total → total / n ≤ counter → total % n ≡ 0 → items ≡ all
 none_left all items [] total counter n is len over divides = sym (is ∙ append-nil items)
 none_left all items (x ∷ xs) total counter n is len over divides =
-    let times : total / n * n ≤ counter * n = mul-le-mul_right n over in
-    absurd (omega (arith, div-add-mod' total n, times))
+    let times : total / n * n ≤ counter * n = mul-le-mul_right n over in absurd (omega (arith, div-add-mod' total n, times))
 
 pub returns-clause-items : goal.returns-clause-items
 returns-clause-items g c =
@@ -58,7 +55,4 @@ pub returns-clause-len : goal.returns-clause-len
 returns-clause-len g c = ap (λ k. k * g.row.N) (returns-clause-count g c) ∙ omega (arith, div-add-mod' (vec_len c.args.vec) g.row.N)
 
 pub returns-clause-places : goal.returns-clause-places
-returns-clause-places g c =
-    let rows : vec_len c.loop.rows ≡ length c.loop.rows.items = search rules in
-    let all : length c.args.vec.items ≡ vec_len c.args.vec = search rules in
-    IsFlat-pieces g.row.N _ _ (all ∙ sym (returns-clause-len g c) ∙ ap (λ k. k * g.row.N) rows) (λ _. sym (returns-clause-rows g c))
+returns-clause-places g c = IsFlat-pieces g.row.N _ _ (grind (arith, returns-clause-len g c)) (λ _. sym (returns-clause-rows g c))
