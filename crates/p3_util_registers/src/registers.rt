@@ -129,7 +129,7 @@ pub(crate) trait Runs<T, D: Register<T>>: Loads<T, D> {
 }
 
 /// Four registers.
-#[derive(Clone, Copy)]
+#[derive(Drop)]
 pub(crate) struct Four<D> {
     pub a: D,
     pub b: D,

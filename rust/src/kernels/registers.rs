@@ -75,7 +75,6 @@ pub(crate) trait Runs<T, D: Register<T>>: Loads<T, D> {
 }
 
 /// Four registers.
-#[derive(Clone, Copy)]
 pub(crate) struct Four<D> {
     pub a: D,
     pub b: D,
