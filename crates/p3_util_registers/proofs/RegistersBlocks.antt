@@ -1,12 +1,13 @@
 -- Blocks whose columns are put by squares.
-use Rattle.std.proofs.Common.{◌≡◌, ◌≢◌, ℕ, ◌+◌, ◌-◌, ◌*◌, ◌%◌, ◌<◌, ◌≤◌, ◌⊎◌, List, slice_index, inl, inr, ◌∙◌, arith}
+use Rattle.std.proofs.Common.{◌≡◌, ◌≢◌, ℕ, ◌+◌, ◌-◌, ◌*◌, ◌%◌, ◌<◌, ◌≤◌, ◌⊎◌, List, slice_index, replicate, inl, inr, ◌∙◌, arith}
 use Rattle.std.proofs.Math.Nat.{lt_of_mul-lt-mul_left, mul-le-mul_right}
 use Rattle.std.proofs.lemmas.Bool.{cases_lt}
+use Rattle.std.proofs.lemmas.List.{get_or-replicate}
 use Rattle.p3_util_kernels.specs.declared.places.bulk.Block.{Block}
 use Rattle.p3_util_kernels.specs.BlockPut.{BlockFits, IsBlockPut}
-use Rattle.p3_util_registers.specs.Registers.{AreDisjoint, AreColumns, AreStored, ColumnsPut, IsSide}
+use Rattle.p3_util_registers.specs.Registers.{AreDisjoint, AreColumns, AreReached, AreStored, ColumnsPut, IsSide, RowsReached}
 use Rattle.p3_util_kernels.proofs.PlacesLemmas.Blocks.{in_block}
-use Rattle.p3_util_registers.proofs.RegistersTiles.{AreDisjoint-rows, SquaresMoved-rows}
+use Rattle.p3_util_registers.proofs.RegistersTiles.{AreDisjoint-rows, AreReached-rows, SquaresMoved-rows}
 
 -- what is in one column is before the next one
 column_before : (a b height : ℕ) → a < b → a * height + height ≤ b * height
@@ -18,36 +19,40 @@ row_in_block side c (inl is) = rw is (omega arith, λ h. omega arith)
 row_in_block side c (inr is) = rw is (omega arith, λ h. omega arith)
 
 module _ (side : ℕ) (block : Block) (col input_len len : ℕ) (is : IsSide side) (known : (block.rows ≡ 4) ⊎ (block.rows ≡ 8))
-    (below : col + side ≤ block.rows) (square : block.cols ≡ block.rows) (fits : BlockFits block input_len len) (rows cols tops : List ℕ)
-    (is_top : (c : ℕ) → c < 8 → slice_index tops c ≡ col)
+    (below : col + side ≤ block.rows) (square : block.cols ≡ block.rows) (fits : BlockFits block input_len len) (rows cols : List ℕ)
     (at_rows : (c : ℕ) → c < 8 → slice_index rows c ≡ block.from + c % block.rows * block.width)
     (at_cols : (c : ℕ) → c < 8 → slice_index cols c ≡ block.to + c % block.rows * block.height) where
   in_all : (c : ℕ) → c < block.rows → c < 8
   in_all c h = elim known [ inl u ↦ omega arith | inr u ↦ omega arith ]
 
-  apart : (a b : ℕ) → a < b → b < block.rows → (slice_index cols a + block.rows ≤ slice_index cols b) ⊎ (slice_index cols b + block.rows ≤ slice_index cols a)
-  apart a b h k =
-      let row_a = (row_in_block block.rows a known).1 (omega arith) in
-      let row_b = (row_in_block block.rows b known).1 k in
-      inl (omega (arith, rw row_a at (at_cols a (in_all a (omega arith))), rw row_b at (at_cols b (in_all b k)), fits.apart, column_before a b block.height h))
+  at_col : (c : ℕ) → c < block.rows → slice_index cols c ≡ block.to + c * block.height
+  at_col c h = rw ((row_in_block block.rows c known).1 h) at (at_cols c (in_all c h))
 
-  module _ (to : List ℕ) (at : (c : ℕ) → c < 8 → slice_index to c ≡ slice_index cols (slice_index tops c + c % side) + (c - c % side)) where
-    at_row : (c : ℕ) → c < block.rows → slice_index to c ≡ slice_index cols (slice_index tops c + c % side) + (c - c % side)
-    at_row c h = at c (in_all c h)
+  apart : (a b : ℕ) → a < b → b < block.rows → (slice_index cols a + block.rows ≤ slice_index cols b) ⊎ (slice_index cols b + block.rows ≤ slice_index cols a)
+  apart a b h k = inl (omega (arith, at_col a (omega arith), at_col b k, fits.apart, column_before a b block.height h))
+
+  is_top : (c : ℕ) → c < block.rows → slice_index (replicate 8 col) c ≡ col
+  is_top c h = get_or-replicate 8 c col 0 (in_all c h)
+
+  module _ (to : List ℕ) (at : (c : ℕ) → c < 8 → slice_index to c ≡ slice_index cols (col + c % side) + (c - c % side)) where
+    at_row : (c : ℕ) → c < block.rows → slice_index to c ≡ slice_index cols (slice_index (replicate 8 col) c + c % side) + (c - c % side)
+    at_row c h = rw (is_top c h) (at c (in_all c h))
 
     pub AreDisjoint-block_to : AreDisjoint block.rows side to
-    AreDisjoint-block_to = AreDisjoint-rows block.rows side known is (omega arith) (λ s. col) cols tops to (λ c h. below) (λ c h. is_top c (in_all c h)) at_row apart
+    AreDisjoint-block_to = AreDisjoint-rows block.rows side known is (omega arith) (λ s. col) cols (replicate 8 col) to (λ c h. below) is_top at_row apart
 
-    pub ColumnsPut-step : {A : Type 0} (from : List ℕ) (columns : List (List A)) (input old new : List A) → ((c : ℕ) → c < 8 → slice_index from c ≡ slice_index rows c + slice_index tops c)
+    pub AreReached-block_to : (may : ℕ → Type 0) → RowsReached block.rows side (λ c. block.to + c * block.height) may → AreReached block.rows to may
+    AreReached-block_to may all = AreReached-rows block.rows side known is (omega arith) (λ s. col) cols (replicate 8 col) to (λ c h. below) is_top at_row may (λ r c h k. rw (at_col r h) (all r c h k))
+
+    pub ColumnsPut-step : {A : Type 0} (from : List ℕ) (columns : List (List A)) (input old new : List A) → ((c : ℕ) → c < 8 → slice_index from c ≡ slice_index rows c + col)
         → AreColumns side from input columns → AreStored block.rows side to columns old new → ColumnsPut col (col + side) block input old new
     ColumnsPut-step from columns input old new at_from of stored =
-        let moved = SquaresMoved-rows block.rows side known is (omega arith) (λ s. col) cols tops to (λ c h. below) (λ c h. is_top c (in_all c h)) at_row rows from columns input old new (λ c h. at_from c (in_all c h)) of stored in
-        let to_is : (c : ℕ) → c < block.rows → slice_index cols c ≡ block.to + c * block.height = λ c h. rw ((row_in_block block.rows c known).1 h) at (at_cols c (in_all c h)) in
+        let moved = SquaresMoved-rows block.rows side known is (omega arith) (λ s. col) cols (replicate 8 col) to (λ c h. below) is_top at_row rows from columns input old new (λ c h. rw (is_top c h) (at_from c (in_all c h))) of stored in
         let from_is : (r : ℕ) → r < block.rows → slice_index rows r ≡ block.from + r * block.width = λ r h. rw ((row_in_block block.rows r known).1 h) at (at_rows r (in_all r h)) in
         record {
           same_length = moved.same_length;
-          places = λ r c hr h k. rw (to_is c (omega arith), from_is r hr) at (moved.places c r hr h k);
-          others = λ p out. moved.others p (λ c r hr h k. rw (to_is c (omega arith)) (out r c hr h k));
+          places = λ r c hr h k. rw (at_col c (omega arith), from_is r hr) at (moved.places c r hr h k);
+          others = λ p out. moved.others p (λ c r hr h k. rw (at_col c (omega arith)) (out r c hr h k));
         }
 
 module _ (block : Block) (input_len len : ℕ) (fits : BlockFits block input_len len) where

@@ -463,8 +463,7 @@ pub(crate) fn turn_tile<T, D: Register<T>, M: Runs<T, D>>(list: &mut M, x: [usiz
 fn start(first: usize, stride: usize, count: usize, c: usize) -> usize
     requires known { (count ≡ 4) ⊎ (count ≡ 8) }
     requires fits { (r : ℕ) → r < count → first + r * stride + 8 < 2 ^ 64 }
-    ensures is { result ≡ first + c % count * stride }
-    ensures fit { result + 8 < 2 ^ 64 }
+    ensures { result ≡ first + c % count * stride }
 {
     first + c % count * stride
 }

@@ -1,6 +1,5 @@
 -- The rows of the squares are read from the source, and their columns are put.
-use Rattle.std.proofs.Common.{replicate, arith}
-use Rattle.std.proofs.lemmas.List.{get_or-replicate}
+use Rattle.std.proofs.Common.{arith}
 use Rattle.p3_util_registers.specs.Registers.{items_of_four}
 use Rattle.p3_util_registers.proofs.RegistersBlocks.{AreDisjoint-block_to, ColumnsPut-step}
 use Rattle.p3_util_registers.proofs.registers.put_squares.Goals as goal
@@ -13,11 +12,11 @@ starts-requires-2-clause-fits g c r h = omega (arith, c.requires.cells_len_fits,
 
 pub store-requires-clause-apart : goal.store-requires-clause-apart
 store-requires-clause-apart g c =
-    AreDisjoint-block_to _ c.args.block c.args.col _ _ c.requires.some_side c.requires.known c.requires.below c.requires.square c.requires.block _ _ (replicate 8 c.args.col) (λ j h. get_or-replicate 8 j c.args.col 0 h)
-    c.starts.ensures.are c.starts-2.ensures.are _ (λ k h. rw (get_or-replicate 8 k c.args.col 0 h) ((rw c.SIDE.ensures at c.in_band-to.ensures) k h))
+    AreDisjoint-block_to _ c.args.block c.args.col _ _ c.requires.some_side c.requires.known c.requires.below c.requires.square c.requires.block _ _
+    c.starts.ensures.are c.starts-2.ensures.are _ (rw c.SIDE.ensures at c.in_band-to.ensures)
 
 pub returns-clause-put : goal.returns-clause-put
 returns-clause-put g c =
-    ColumnsPut-step _ c.args.block c.args.col _ _ c.requires.some_side c.requires.known c.requires.below c.requires.square c.requires.block _ _ (replicate 8 c.args.col) (λ j h. get_or-replicate 8 j c.args.col 0 h)
-    c.starts.ensures.are c.starts-2.ensures.are _ (λ k h. rw (get_or-replicate 8 k c.args.col 0 h) ((rw c.SIDE.ensures at c.in_band-to.ensures) k h))
-    _ (items_of_four g.D.Register.items c.load_columns.result) _ _ _ (λ k h. rw (get_or-replicate 8 k c.args.col 0 h) (c.in_column-from.ensures k h)) c.load_columns.ensures c.store.ensures.stored
+    ColumnsPut-step _ c.args.block c.args.col _ _ c.requires.some_side c.requires.known c.requires.below c.requires.square c.requires.block _ _
+    c.starts.ensures.are c.starts-2.ensures.are _ (rw c.SIDE.ensures at c.in_band-to.ensures)
+    _ (items_of_four g.D.Register.items c.load_columns.result) _ _ _ c.in_column-from.ensures c.load_columns.ensures c.store.ensures.stored
