@@ -1,42 +1,35 @@
 -- The two halves of a region, exchanged, are the region exchanged.
-use Rattle.std.proofs.Common.{◌≡◌, ◌-◌, ◌*◌, ℕ, ap, refl, arith, rules}
+use Rattle.std.proofs.Common.{◌≡◌, ◌+◌, ◌-◌, ◌*◌, ◌<◌, ℕ, ap, ◌∙◌, arith, rules}
+use Rattle.p3_util_kernels.specs.Logarithms.{clog}
 use Rattle.p3_util_kernels.specs.Region.{cols_of, rows_of}
 use Rattle.p3_util_kernels.proofs.GridLemmas.Parts.{cut_exchanged}
 use Rattle.p3_util_kernels.proofs.BitsLemmas.Logarithms.{clog-above, clog-rest, clog-tiles}
 use Rattle.p3_util_kernels.proofs.grid.+exchange_region.Goals as goal
 
--- both halves nest less deep
+-- a part of a side of more than 64 nests less deep
+less_deep : (side other part half kept t : ℕ) → (clog side - 6) + (clog other - 6) ≡ t → 64 < side → part ≡ half → clog half < clog side → kept ≡ other
+    → (clog part - 6) + (clog kept - 6) < t
+less_deep side other part half kept t deep long cut less same = rw (cut, same) (omega (arith, deep, less, clog-above side 6 long))
+
+less_deep-cols : (side other part half kept t : ℕ) → (clog other - 6) + (clog side - 6) ≡ t → 64 < side → part ≡ half → clog half < clog side → kept ≡ other
+    → (clog kept - 6) + (clog part - 6) < t
+less_deep-cols side other part half kept t deep long cut less same = omega (arith, less_deep side other part half kept t (omega (arith, deep)) long cut less same)
+
 pub exchange_region-m-requires : goal.exchange_region-m-requires
 exchange_region-m-requires g t c =
-    let half = c.upper_half.ensures in
-    let less = clog-tiles (rows_of c.args.region) _ (omega arith) half.whole (omega arith) in
-    let cut : rows_of c.cut_rows.result.0 ≡ c.upper_half.result = rw c.cut_rows.ensures.upper (omega arith) in
-    let kept : cols_of c.cut_rows.result.0 ≡ cols_of c.args.region = rw c.cut_rows.ensures.upper refl in
-    λ κs k. (rw (cut, kept) (omega (arith, c.decreases, less, clog-above (rows_of c.args.region) 6 (omega arith))), grind (arith, rules, c.requires.ready))
+    λ κs k. (less_deep _ _ _ _ _ t c.decreases (omega arith) (ap rows_of c.cut_rows.ensures.upper ∙ omega arith) (clog-tiles (rows_of c.args.region) _ (omega arith) c.upper_half.ensures.whole (omega arith)) (ap cols_of c.cut_rows.ensures.upper), grind (arith, rules, c.requires.ready))
 
 pub exchange_region-requires : goal.exchange_region-requires
 exchange_region-requires g t c =
-    let half = c.upper_half.ensures in
-    let less = clog-rest (rows_of c.args.region) _ (omega arith) half.whole (omega arith) (omega arith) in
-    let cut : rows_of c.cut_rows.result.1 ≡ rows_of c.args.region - c.upper_half.result = rw c.cut_rows.ensures.lower (omega arith) in
-    let kept : cols_of c.cut_rows.result.1 ≡ cols_of c.args.region = rw c.cut_rows.ensures.lower refl in
-    λ κs k. (rw (cut, kept) (omega (arith, c.decreases, less, clog-above (rows_of c.args.region) 6 (omega arith))), grind (arith, rules, c.requires.ready))
+    λ κs k. (less_deep _ _ _ _ _ t c.decreases (omega arith) (ap rows_of c.cut_rows.ensures.lower ∙ omega arith) (clog-rest (rows_of c.args.region) _ (omega arith) c.upper_half.ensures.whole (omega arith) (omega arith)) (ap cols_of c.cut_rows.ensures.lower), grind (arith, rules, c.requires.ready))
 
 pub exchange_region-m-requires-else-rows-cols : goal.exchange_region-m-requires-else-rows-cols
 exchange_region-m-requires-else-rows-cols g t c =
-    let half = c.upper_half-else-rows-cols.ensures in
-    let less = clog-tiles (cols_of c.args.region) _ (omega arith) half.whole (omega arith) in
-    let cut : cols_of c.cut_cols.result.0 ≡ c.upper_half-else-rows-cols.result = rw c.cut_cols.ensures.left (omega arith) in
-    let kept : rows_of c.cut_cols.result.0 ≡ rows_of c.args.region = rw c.cut_cols.ensures.left refl in
-    λ κs k. (rw (cut, kept) (omega (arith, c.decreases, less, clog-above (cols_of c.args.region) 6 (omega arith))), grind (arith, rules, c.requires.ready))
+    λ κs k. (less_deep-cols _ _ _ _ _ t c.decreases (omega arith) (ap cols_of c.cut_cols.ensures.left ∙ omega arith) (clog-tiles (cols_of c.args.region) _ (omega arith) c.upper_half-else-rows-cols.ensures.whole (omega arith)) (ap rows_of c.cut_cols.ensures.left), grind (arith, rules, c.requires.ready))
 
 pub exchange_region-requires-else-rows-cols : goal.exchange_region-requires-else-rows-cols
 exchange_region-requires-else-rows-cols g t c =
-    let half = c.upper_half-else-rows-cols.ensures in
-    let less = clog-rest (cols_of c.args.region) _ (omega arith) half.whole (omega arith) (omega arith) in
-    let cut : cols_of c.cut_cols.result.1 ≡ cols_of c.args.region - c.upper_half-else-rows-cols.result = rw c.cut_cols.ensures.right (omega arith) in
-    let kept : rows_of c.cut_cols.result.1 ≡ rows_of c.args.region = rw c.cut_cols.ensures.right refl in
-    λ κs k. (rw (cut, kept) (omega (arith, c.decreases, less, clog-above (cols_of c.args.region) 6 (omega arith))), grind (arith, rules, c.requires.ready))
+    λ κs k. (less_deep-cols _ _ _ _ _ t c.decreases (omega arith) (ap cols_of c.cut_cols.ensures.right ∙ omega arith) (clog-rest (cols_of c.args.region) _ (omega arith) c.upper_half-else-rows-cols.ensures.whole (omega arith) (omega arith)) (ap rows_of c.cut_cols.ensures.right), grind (arith, rules, c.requires.ready))
 
 pub returns-then-rows-cols-clause-exchanged : goal.returns-then-rows-cols-clause-exchanged
 returns-then-rows-cols-clause-exchanged g t c =
