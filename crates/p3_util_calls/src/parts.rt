@@ -31,7 +31,7 @@ pub(crate) use transpose::TransposePlan;
 
 /// The numbers below `len`, cut into parts of `part_len` consecutive numbers. The last part may
 /// have fewer.
-#[derive(Clone, Copy, Debug)]
+#[derive(Clone, Copy)]
 pub(crate) struct Cut {
     len: usize,
     part_len: usize,

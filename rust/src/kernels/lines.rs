@@ -24,7 +24,7 @@ const LONG_ROW: usize = 32;
 const MOST_ROWS: usize = 1 << 62;
 
 /// The cache lines of an output.
-#[derive(Clone, Copy, PartialEq, Eq)]
+#[derive(Clone, Copy)]
 pub(crate) struct Lines {
     /// The number of cells of a line, a power of two.
     cells: usize,

@@ -12,7 +12,7 @@ use p3_util_kernels::transpose::Region;
 
 /// The transpose of a matrix of `height` rows of `width` items, cut into regions of neighbouring
 /// rows or of neighbouring columns.
-#[derive(Clone, Copy, Debug)]
+#[derive(Clone, Copy)]
 pub(crate) struct TransposePlan {
     pub width: usize,
     pub height: usize,
