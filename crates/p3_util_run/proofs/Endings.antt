@@ -1,7 +1,6 @@
 -- An input has an answer or one refusal, and never both.
-use Rattle.std.proofs.Common.{◌≡◌, ◌↔◌, ◌⊎◌, inl, inr, ℕ, List, length, Some, None, Option, Result, Ok, Err, IsOk, IfErr, OnOk, IfSome, MatchResult, MatchOption, ap, subst, sym, refl, ◌∙◌}
+use Rattle.std.proofs.Common.{◌≡◌, ◌↔◌, ◌⊎◌, inl, inr, ℕ, List, length, Some, None, Option, Result, Ok, Err, IsOk, IfErr, IfSome, MatchResult, MatchOption, ap, subst, sym, refl, ◌∙◌}
 use Rattle.std.specs.Prelude.{IsSomeAnd, ⊤}
-use Rattle.std.specs.Io.KnownBytes.{Appends}
 use Rattle.std.proofs.KnownBytes.{Consumes-whole}
 use Rattle.p3_util_kernels.proofs.TransposeLemmas.Matrix.{IsTranspose-unique}
 use Rattle.p3_util_kernels.proofs.ReverseLemmas.Reversal.{IsReversal-unique, IsRowReversal-unique}
@@ -92,13 +91,6 @@ ends_refused command input fault (inl memory) settled = let P : RunFault → Typ
 ends_refused command input fault (inr refused) settled = refused
 
 -- the clauses of `run` about what is known when it ends
-pub wrote : {T : Type 0} → (words : List (List ℕ)) (command : Command) (a b x y : Option (List ℕ)) (input text : List ℕ) (r : Result T RunFault)
-    → Some command ≡ command_of words → ReadsAll a b input → Answers command input text → OnOk r (Appends x y text)
-    → OnOk r ((input' text' : List ℕ) × ReadsAll a b input' × Out words input' text' × Appends x y text')
-wrote words command a b x y input text (Ok v) named all answer appended =
-    (input, text, all, out_from_answers words command input text named answer, appended)
-wrote words command a b x y input text (Err fault) named all answer appended = tt
-
 answers_both_ways : {T : Type 0} → (words : List (List ℕ)) (command : Command) (input : List ℕ) (r : Result T RunFault) → Some command ≡ command_of words
     → Ends command input r → IsSettled r → IsOk r ↔ IsDefined words input
 answers_both_ways words command input (Ok v) named ends settled =
