@@ -16,13 +16,14 @@ use p3_util_proved::transpose::transpose;
 /// The least stack that a thread can have, in bytes. It has no room for an item of 64 KiB.
 const LEAST: usize = 1 << 16;
 
-/// The stack for a call on items of this many bytes. In a release build it has room for so many items more.
+/// The stack for a call on items of this many bytes. In a release build it has room for so many items more. A build with
+/// information for debuggers needs more than those of `rust/test`, which are without it.
 const fn stack_for(size: usize, items: usize) -> usize {
     match size {
         ..=64 if RELEASE => LEAST,
         _ if RELEASE => LEAST + items * size,
-        ..=64 if cfg!(debug_assertions) => 96 << 10,
-        ..=64 => 224 << 10,
+        ..=64 if cfg!(debug_assertions) => 112 << 10,
+        ..=64 => 264 << 10,
         _ => LEAST + 3 * size,
     }
 }
