@@ -157,6 +157,8 @@ fn check_row(rt: &impl Abort, alloc: Global, row: &Row) -> Result<(), AllocError
 
 const NOT_AN_ARRAY: &str = "error: input is not a JSON array of u64";
 
+const UNKNOWN: &str = "error: unknown command";
+
 /// Reversals, reversals of rows, and transposes.
 const ROWS: [Row; 25] = [
     (&["revbits"], b"[]", "[]\n", 0),
@@ -267,7 +269,7 @@ const ROWS: [Row; 25] = [
 ];
 
 /// Arguments that name no command.
-const UNKNOWN: [&[&str]; 15] = [
+const NO_COMMANDS: [&[&str]; 15] = [
     &["revrows", "x"],
     &["revrows", ""],
     &["revrows", "18446744073709551616"],
@@ -315,12 +317,8 @@ fn rows(rt: HostRuntime) -> Result<(), AllocError> {
 
 #[test]
 fn unknown_commands(rt: HostRuntime) -> Result<(), AllocError> {
-    for &words in &UNKNOWN {
-        check_row(
-            &rt,
-            rt.alloc(),
-            &(words, b"[]", "error: unknown command", 2),
-        )?;
+    for &words in &NO_COMMANDS {
+        check_row(&rt, rt.alloc(), &(words, b"[]", UNKNOWN, 2))?;
     }
     Ok(())
 }
