@@ -94,10 +94,9 @@ fn shown(bytes: &[u8]) -> &str {
     str::from_utf8(bytes).unwrap_or("bytes that are no UTF-8")
 }
 
-/// Asserts that `got` is `wanted`, in a run of this row.
-fn same<T: PartialEq + Debug>(rt: &impl Abort, row: &Row, got: &T, wanted: &T) {
-    let (words, input, _, _) = *row;
-    assert_eq!(rt; *got, *wanted, "{words:?} on {}", shown(input));
+/// Asserts that `got` is `wanted`, in the run of this name.
+fn same<T: PartialEq + Debug>(rt: &impl Abort, name: &impl Debug, got: &T, wanted: &T) {
+    assert_eq!(rt; *got, *wanted, "in the run {name:?}");
 }
 
 /// Asserts that a run wrote the output of its row, or that it wrote nothing and its fault has this
@@ -109,13 +108,18 @@ fn check_printed(
     ended: &Result<(), RunFault>,
     written: &[u8],
 ) -> Result<(), AllocError> {
-    let (_, _, output, status) = *row;
+    let (words, input, output, status) = *row;
     let (got, text) = match ended {
         Ok(()) => (0, String::from_str(alloc, shown(written))?),
         Err(fault) => (fault.status(), fault.to_string(alloc)?),
     };
-    same(rt, row, &(got, text.as_str()), &(status, output));
-    same(rt, row, &(got == 0 || written.is_empty()), &true);
+    let is_right = got == 0 || written.is_empty();
+    same(
+        rt,
+        &(words, shown(input)),
+        &(got, text.as_str(), is_right),
+        &(status, output, true),
+    );
     Ok(())
 }
 
@@ -332,46 +336,41 @@ fn no_arrays(rt: HostRuntime) -> Result<(), AllocError> {
 }
 
 /// A run on a list of two numbers that ends with a fault: what its reader and its writer do, the
-/// fault, and the numbers of failures.
+/// fault, the numbers of failures, and the number of bytes that were written.
 struct Failing {
     good_reads: u8,
     good_writes: u8,
     failure: Option<ErrorKind>,
     fault: RunFault,
     failures: (u64, u64),
+    written: usize,
 }
 
 /// Asserts that the first failure ends a run, is counted once and is the last call, even if the
-/// next call would succeed. Returns the number of bytes that were written.
-fn check_failure(rt: &impl Abort, alloc: Global, failing: Failing) -> Result<usize, AllocError> {
+/// next call would succeed.
+fn check_failure(rt: &impl Abort, alloc: Global, failing: Failing) -> Result<(), AllocError> {
     let Failing {
         good_reads,
         good_writes,
         failure,
         fault,
         failures,
+        written,
     } = failing;
     let mut reader = reader(b"[1,2]", good_reads, failure);
     let mut writer = writer(alloc, good_writes, failure);
     let words = owned(alloc, &["revbits"])?;
     let result = run(alloc, &words, &mut reader, &mut writer);
-    let calls = (good_reads, good_writes);
-    after(rt, calls, &result, &Err(fault));
-    after(
-        rt,
-        calls,
-        &(reader.failures(), writer.failures()),
-        &failures,
-    );
+    let counted = (reader.failures(), writer.failures());
     let (reader, writer) = (reader.into_inner(), writer.into_inner());
     let has_failed = (reader.good_calls == u8::MAX, writer.good_calls == u8::MAX);
-    after(rt, calls, &has_failed, &(failures.0 == 1, true));
-    Ok(writer.taken.len())
-}
-
-/// Asserts that `got` is `wanted`, if so many calls of a reader and of a writer succeed.
-fn after<T: PartialEq + Debug>(rt: &impl Abort, calls: (u8, u8), got: &T, wanted: &T) {
-    assert_eq!(rt; *got, *wanted, "after {calls:?} calls");
+    same(
+        rt,
+        &(good_reads, good_writes),
+        &(result, counted, has_failed, writer.taken.len()),
+        &(Err(fault), failures, (failures.0 == 1, true), written),
+    );
+    Ok(())
 }
 
 /// A `Watched` that calls again after an error, counted or not, or that fails without a call, fails
@@ -386,9 +385,9 @@ fn failures_of_reads(rt: HostRuntime) -> Result<(), AllocError> {
                 failure: Some(kind),
                 fault: RunFault::Read,
                 failures: (1, 0),
+                written: 0,
             };
-            let written = check_failure(&rt, rt.alloc(), failing)?;
-            assert_eq!(rt; written, 0);
+            check_failure(&rt, rt.alloc(), failing)?;
         }
     }
     Ok(())
@@ -404,9 +403,9 @@ fn failures_of_writes(rt: HostRuntime) -> Result<(), AllocError> {
                 failure,
                 fault: RunFault::Write,
                 failures: (0, 1),
+                written: usize::from(calls),
             };
-            let written = check_failure(&rt, rt.alloc(), failing)?;
-            assert_eq!(rt; written, usize::from(calls));
+            check_failure(&rt, rt.alloc(), failing)?;
         }
     }
     Ok(())
