@@ -4,7 +4,7 @@ use Rattle.std.proofs.lemmas.Bool.{cases_lt}
 use Rattle.std.proofs.lemmas.Nat.{same_from_place}
 use Rattle.p3_util_kernels.specs.declared.transpose.regions.Region.{Region}
 use Rattle.p3_util_kernels.specs.Sums.{sum_below}
-use Rattle.p3_util_calls.specs.Lines.{IsPutTo, cells_before, items_to, limit}
+use Rattle.p3_util_calls.specs.Lines.{IsPutTo, IsRowPut, cells_before, items_to, limit}
 use Rattle.p3_util_kernels.specs.Region.{IsInRegion, IsRegionTransposed, cols_of, items_of, rows_of}
 use Rattle.p3_util_kernels.proofs.BitsLemmas.Sums.{sum_below-same}
 
@@ -227,3 +227,27 @@ ahead-still col end f g x order same =
       | inl before ↦ ahead-there col end f g x order (inl before)
       | inr from ↦ elim (cases_lt x end) [ inl to ↦ same x from to | inr after ↦ ahead-there col end f g x order (inr after) ]
     ]
+
+-- The columns before `col` are put one line further, and no others. `Steps` and `StepsNow` say how many items are put before and after this
+abbrev pub IsRowPutTo : {A M : Type 0} → (region : Region) (col cells before step done width height : ℕ) (input out result : List A) (Steps StepsNow : ℕ → M → Type 0) → Type 0
+IsRowPutTo {A} {M} region col cells before step done width height input out result Steps StepsNow =
+    let from = limit region cells before step done in
+    let to = ahead col from (limit region cells before step (done + cells)) in
+    ((old : List A) → IsPutTo region from width height input old out → IsPutTo region to width height input old result)
+    × ((old : M) → Steps (items_to region from) old → StepsNow (items_to region to) old)
+
+module _ {A M : Type 0} (region : Region) (cells before step done width height : ℕ) (input out result : List A) (Steps StepsNow : ℕ → M → Type 0) where
+  pub IsRowPutTo-none : IsRowPutTo region region.col_start cells before step done width height input out out Steps Steps
+  IsRowPutTo-none =
+      let f : ℕ → ℕ = limit region cells before step done in
+      let g : ℕ → ℕ = ahead region.col_start f (limit region cells before step (done + cells)) in
+      let same : (x : ℕ) → region.col_start ≤ x → x < region.col_end → g x ≡ f x = λ x from to. ahead-right region.col_start f _ x from in
+      (λ old put. IsPutTo-same region width height input f g old out same put, λ old holder. rw (items_to-same region f g same) holder)
+
+  pub IsRowPutTo-all : (col : ℕ) → col ≡ region.col_end → IsRowPutTo region col cells before step done width height input out result Steps StepsNow
+      → IsRowPut region cells before step done width height input out result Steps StepsNow
+  IsRowPutTo-all col end row =
+      let f : ℕ → ℕ = limit region cells before step (done + cells) in
+      let g : ℕ → ℕ = ahead col (limit region cells before step done) f in
+      let same : (x : ℕ) → region.col_start ≤ x → x < region.col_end → f x ≡ g x = λ x from to. sym (ahead-left col _ f x (omega (arith, end, to))) in
+      (λ old put. IsPutTo-same region width height input g f old result same (row.0 old put), λ old holder. rw (items_to-same region g f same) (row.1 old holder))

@@ -1,23 +1,17 @@
 -- Each turn of a loop puts some more columns one line further.
 use Rattle.std.proofs.Common.{◌≡◌, ℕ, ◌+◌, ◌<◌, ◌≤◌, inl, inr, refl, sym, ◌∙◌, arith}
 use Rattle.p3_util_calls.specs.Lines.{limit}
-use Rattle.p3_util_calls.proofs.LinesLemmas.{IsPutTo-same, ahead, ahead-left, ahead-right, further, items_to-same, limit-alike, limit-whole}
+use Rattle.p3_util_calls.proofs.LinesLemmas.{IsRowPutTo-all, IsRowPutTo-none, further, limit-alike, limit-whole}
 use Rattle.p3_util_calls.proofs.lines.put_row.Goals as goal
 use Rattle.p3_util_calls.proofs.lines.put_row.Goals.{then-step-eq0+else-loop-col-test, else-step-eq0}
 
 pub loop-col-init : goal.loop-col-init
-loop-col-init g c =
-    let region = c.args.region in
-    let f : ℕ → ℕ = limit region c.args.lines.cells c.args.lines.before c.args.step c.args.rows_done in
-    let next : ℕ → ℕ = limit region c.args.lines.cells c.args.lines.before c.args.step (c.args.rows_done + c.args.lines.cells) in
-    let first : (x : ℕ) → region.col_start ≤ x → x < region.col_end → ahead region.col_start f next x ≡ f x = λ x from to. ahead-right region.col_start f next x from in
-    record {
-      from = omega arith;
-      to = omega (arith, c.requires.ready.inside.cols_in_order);
-      same_length = refl;
-      put = λ old put. IsPutTo-same region _ _ _ f (ahead region.col_start f next) old _ first put;
-      holder = λ old holder. rw (items_to-same region f (ahead region.col_start f next) first) holder;
-    }
+loop-col-init g c = record {
+  from = omega arith;
+  to = omega (arith, c.requires.ready.inside.cols_in_order);
+  same_length = refl;
+  row = IsRowPutTo-none c.args.region c.args.lines.cells c.args.lines.before c.args.step c.args.rows_done c.args.matrix.width c.args.matrix.height (g.R.Source.items c.args.matrix.source) (g.M.Cells.items c.args.out) (g.M.Cells.items c.args.out) (λ n old. g.M.Cells.same_holder n old c.args.out) (λ n old. g.M.Cells.same_holder n old c.args.out);
+}
 
 pub loop-col-preserved : goal.loop-col-preserved
 loop-col-preserved g c =
@@ -38,33 +32,20 @@ loop-col-preserved g c =
       from = omega arith;
       to = omega arith;
       same_length = c.put_as_block-out.ensures.transposed.same_length ∙ c.loop-col.invariant.same_length;
-      put = λ old put. step.0 old (c.loop-col.invariant.put old put);
-      holder = λ old holder.
-          g.met.M.Cells.same_holder_trans _ _ _ _ _ _ (c.loop-col.invariant.holder old holder) (rw (c.with_known_sides.ensures, c.with_cols-line.ensures, c.with_rows.ensures) at c.put_as_block-out.ensures.holder) step.1;
+      row = (λ old put. step.0 old (c.loop-col.invariant.row.0 old put), λ old holder.
+          g.met.M.Cells.same_holder_trans _ _ _ _ _ _ (c.loop-col.invariant.row.1 old holder) (rw (c.with_known_sides.ensures, c.with_cols-line.ensures, c.with_rows.ensures) at c.put_as_block-out.ensures.holder) step.1);
     }
 
 pub loop-col-2-init : goal.loop-col-2-init
 loop-col-2-init g c =
-    let region = c.args.region in
-    let f : ℕ → ℕ = limit region c.args.lines.cells c.args.lines.before c.args.step c.args.rows_done in
-    let next : ℕ → ℕ = limit region c.args.lines.cells c.args.lines.before c.args.step (c.args.rows_done + c.args.lines.cells) in
-    let first : (x : ℕ) → region.col_start ≤ x → x < region.col_end → ahead region.col_start f next x ≡ f x = λ x from to. ahead-right region.col_start f next x from in
     elim c.if-step-eq0.branch [
-      | then-step-eq0+else-loop-col-test w ↦
-          record {
-            from = omega (arith, w.col-is, w.loop-col.invariant.from);
-            to = omega (arith, w.col-is, w.loop-col.invariant.to);
-            same_length = rw w.out-is w.loop-col.invariant.same_length;
-            put = λ old put. rw (w.out-is, w.col-is) (w.loop-col.invariant.put old put);
-            holder = λ old holder. rw (w.out-is, w.col-is) (w.loop-col.invariant.holder old holder);
-          }
+      | then-step-eq0+else-loop-col-test w ↦ rw (w.out-is, w.col-is) w.loop-col.invariant
       | else-step-eq0 w ↦
           record {
             from = omega (arith, w.col-is);
             to = omega (arith, w.col-is, c.requires.ready.inside.cols_in_order);
             same_length = rw w.out-is refl;
-            put = λ old put. rw (w.out-is, w.col-is) (IsPutTo-same region _ _ _ f (ahead region.col_start f next) old _ first put);
-            holder = λ old holder. rw (w.out-is, w.col-is) (rw (items_to-same region f (ahead region.col_start f next) first) holder);
+            row = rw (w.out-is, w.col-is) (IsRowPutTo-none c.args.region c.args.lines.cells c.args.lines.before c.args.step c.args.rows_done c.args.matrix.width c.args.matrix.height (g.R.Source.items c.args.matrix.source) (g.M.Cells.items c.args.out) (g.M.Cells.items c.args.out) (λ n old. g.M.Cells.same_holder n old c.args.out) (λ n old. g.M.Cells.same_holder n old c.args.out));
           }
     ]
 
@@ -84,19 +65,10 @@ loop-col-2-preserved g c =
       from = omega arith;
       to = omega arith;
       same_length = c.put_as_block-out-in-loop-col-2.ensures.transposed.same_length ∙ c.loop-col-2.invariant.same_length;
-      put = λ old put. step.0 old (c.loop-col-2.invariant.put old put);
-      holder = λ old holder.
-          g.met.M.Cells.same_holder_trans _ _ _ _ _ _ (c.loop-col-2.invariant.holder old holder)
-          (rw (c.with_known_sides-in-loop-col-2.ensures, c.with_cols-line-in-loop-col-2.ensures, c.with_rows-in-loop-col-2.ensures) at c.put_as_block-out-in-loop-col-2.ensures.holder) step.1;
+      row = (λ old put. step.0 old (c.loop-col-2.invariant.row.0 old put), λ old holder.
+          g.met.M.Cells.same_holder_trans _ _ _ _ _ _ (c.loop-col-2.invariant.row.1 old holder)
+          (rw (c.with_known_sides-in-loop-col-2.ensures, c.with_cols-line-in-loop-col-2.ensures, c.with_rows-in-loop-col-2.ensures) at c.put_as_block-out-in-loop-col-2.ensures.holder) step.1);
     }
 
 pub returns : goal.returns
-returns g c =
-    let region = c.args.region in
-    let f : ℕ → ℕ = limit region c.args.lines.cells c.args.lines.before c.args.step c.args.rows_done in
-    let next : ℕ → ℕ = limit region c.args.lines.cells c.args.lines.before c.args.step (c.args.rows_done + c.args.lines.cells) in
-    let last : (x : ℕ) → region.col_start ≤ x → x < region.col_end → next x ≡ ahead region.col_end f next x = λ x from to. sym (ahead-left region.col_end f next x to) in
-    let end : c.loop-col-2.col ≡ region.col_end = omega arith in (
-      λ old put. IsPutTo-same region _ _ _ (ahead region.col_end f next) next old _ last (rw end at c.loop-col-2.invariant.put old put),
-      λ old holder. rw (items_to-same region (ahead region.col_end f next) next last) (rw end at c.loop-col-2.invariant.holder old holder),
-    )
+returns g c = IsRowPutTo-all c.args.region c.args.lines.cells c.args.lines.before c.args.step c.args.rows_done c.args.matrix.width c.args.matrix.height (g.R.Source.items c.args.matrix.source) (g.M.Cells.items c.args.out) (g.M.Cells.items c.loop-col-2.out) (λ n old. g.M.Cells.same_holder n old c.args.out) (λ n old. g.M.Cells.same_holder n old c.loop-col-2.out) c.loop-col-2.col (omega arith) c.loop-col-2.invariant.row
