@@ -32,3 +32,11 @@ whole_items region width height top bottom left right =
     let rows : rows_of region ≡ height = omega (arith, top, bottom) in
     let cols : cols_of region ≡ width = omega (arith, left, right) in
     rw (rows, cols) (mul_comm height width)
+
+-- and to put this region is a transpose
+pub whole_order : {A : Type 0} (width height : ℕ) (input old new : List A) → length old ≡ width * height
+    → IsRegionTransposed (record { row_start = 0; row_end = height; col_start = 0; col_end = width }) width height input old new → IsTranspose width height input new
+whole_order width height input old new fits put = record {
+  same_length = put.same_length ∙ fits;
+  places = λ x y hx hy. put.places x y (record { row_from = omega arith; row_to = hy; col_from = omega arith; col_to = hx });
+}
