@@ -7,10 +7,6 @@ use Rattle.p3_util_kernels.specs.Reversal.{FitsRows}
 pub items_in_row : (row size : ℕ) → ((width : ℕ) × (row ≡ width * size)) → row % size ≡ 0
 items_in_row row size (width, e) = ap (λ n. n % size) e ∙ mul-mod_left width size
 
--- an item has some bytes if its row has
-pub some_bytes : (row size : ℕ) → ((width : ℕ) × (row ≡ width * size)) → 0 < row → 0 < size
-some_bytes row size (width, e) some = pos_of_ne-zero (λ none. omega (arith, some, e ∙ ap (λ s. width * s) none))
-
 -- a number is its quotient by a divisor, times the divisor
 pub places_whole : (n k : ℕ) → n % k ≡ 0 → n / k * k ≡ n
 places_whole n k whole = omega (arith, div-add-mod' n k, whole)
@@ -42,19 +38,9 @@ list_whole len width size bytes (rows, power, e) some whole =
     ap (λ n. n / bytes * bytes) all ∙ ap (λ n. n * bytes) (mul-div_cancel_left (width * size / bytes * rows) some)
     ∙ mul_comm (width * size / bytes * rows) bytes ∙ sym all
 
--- a row that is one place, and one of single bytes
-pub one_place : (row : ℕ) → row % row ≡ 0
-one_place = mod_self
-
-pub single_bytes : (row : ℕ) → row % 1 ≡ 0
-single_bytes = mod-one
-
 -- a list without bytes has no rows
 pub no_rows : FitsRows 0 0
 no_rows = (0, inl refl, refl)
-
-pub no_bytes : (all : ℕ) → all ≡ 0 → all / 1 ≡ 0
-no_bytes all none = div-one all ∙ none
 
 -- the rows of a list that is one part, in bytes
 pub whole_rows : (all place width : ℕ) → all / place * place ≡ all → FitsRows (all / place) width → FitsRows all (width * place)

@@ -29,7 +29,6 @@ pub(crate) const fn is_run(size: usize, moves_bytes: bool) -> bool {
 /// How many bytes a place has in a reversal of rows of `row` bytes each. If there is an instance for this size, a row is a place.
 /// Otherwise an item is one if a row has only this item and the item is not long. All other rows are runs of bytes. If items are
 /// not taken as bytes, each is a place.
-#[tactic(auto, using(crate::proofs::RowBytes::items_in_row, crate::proofs::RowBytes::some_bytes, crate::proofs::RowBytes::one_place, crate::proofs::RowBytes::single_bytes))]
 fn bytes_of_place<I: Instances>(size: usize, row: usize) -> usize
     requires { (width : ℕ) × (row ≡ width * size) }
     ensures some { 0 < result }
@@ -48,7 +47,6 @@ fn bytes_of_place<I: Instances>(size: usize, row: usize) -> usize
 
 /// How many bytes a place has in the reversal of a list of `len` items of `size` bytes, `row_width` in each row, and the plan for
 /// the list of these places.
-#[tactic(auto, using(crate::proofs::RowBytes::no_rows, crate::proofs::RowBytes::no_bytes, crate::proofs::RowBytes::list_whole, crate::proofs::RowBytes::places_whole))]
 pub(crate) fn plan_in_bytes<I: Instances>(
     len: usize,
     size: usize,
@@ -99,7 +97,6 @@ pub(crate) trait ByteInstances: Sized {
 }
 
 /// Makes the exchanges of a part, in the list of places of `place` bytes each.
-#[tactic(auto, using(crate::proofs::RowBytes::whole_fits))]
 #[inline(always)]
 pub(crate) fn reverse_part<I: ByteInstances>(
     list: I,
