@@ -3,8 +3,6 @@ use Rattle.std.proofs.Common.{◌≡◌, ℕ, ◌+◌, ◌-◌, ◌/◌, ◌%◌
 use Rattle.std.proofs.lemmas.Grind.{common_steps}
 use Rattle.p3_util_kernels.specs.declared.transpose.regions.Region.{Region}
 use Rattle.p3_util_calls.specs.Patches.{IsPatch}
-use Rattle.p3_util_kernels.specs.Grid.{square_at}
-use Rattle.p3_util_kernels.specs.Region.{rows_of}
 use Rattle.p3_util_calls.proofs.PatchesLemmas.{patch-above}
 use Rattle.p3_util_kernels.proofs.GridLemmas.Rows.{HoldsGrid-rows}
 use Rattle.p3_util_calls.proofs.parts.reversal.Part+RowPairs.exchange.Goals as goal
@@ -12,11 +10,6 @@ use Rattle.p3_util_calls.proofs.parts.reversal.Part+RowPairs.exchange.Goals as g
 -- the grid of a patch is one of those of the rows
 below : (digits part_len number middle : ℕ) (region : Region) → IsPatch digits part_len number middle region → middle < 2 ^ (digits - digits / 2 - digits / 2)
 below digits part_len number middle region patch = let rest : digits - digits / 2 - digits / 2 ≡ digits % 2 = omega arith in rw rest patch.middle_below
-
--- a region on the diagonal is a square
-square : (region : Region) → region.row_start ≤ region.row_end → region.row_start ≡ region.col_start → region.row_end ≡ region.col_end
-    → square_at region.row_start (rows_of region) ≡ region
-square region order start end = let size : region.row_start + rows_of region ≡ region.row_end = omega arith in rw (size, end, start) refl
 
 pub exchange_quadrants-requires-clause-ready : goal.exchange_quadrants-requires-clause-ready
 exchange_quadrants-requires-clause-ready g c =
@@ -37,3 +30,6 @@ exchange_region-requires-clause-above g c = patch-above _ _ _ _ _ c.args.self.pl
 
 pub returns-then-region : goal.returns-then-region
 returns-then-region g c = grind (arith, common_steps)
+
+pub returns-else-region : goal.returns-else-region
+returns-else-region g c = grind (arith, common_steps)
