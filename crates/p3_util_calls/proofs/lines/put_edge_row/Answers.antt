@@ -26,7 +26,7 @@ loop-col-preserved g c =
     let next : ℕ → ℕ = limit region lines.cells lines.before c.args.step (done + lines.cells) in
     elim c.if-from-to.branch [
       | then-from-to w ↦
-          let step = further region c.args.matrix.width c.args.matrix.height (g.R.Source.items c.args.matrix.source) _ _ lines.cells lines.before c.args.step done (done + lines.cells) from to col (col + 1) order (omega arith) (omega arith) (omega arith) (omega arith) (omega arith)
+          let step = further region c.args.matrix.width c.args.matrix.height (g.R.Source.items c.args.matrix.source) _ _ lines.cells lines.before c.args.step done (done + lines.cells) from to col (col + 1) order c.requires.ready.inside.rows_inside (omega arith) c.loop-col.invariant.from (omega arith) (omega arith)
           (inr refl) c.limit-from-in-loop-col.ensures c.limit-to-in-loop-col.ensures (rw (w.with_cols-part.ensures, w.with_rows-then-from-to.ensures) at w.put_as_block-out.ensures.transposed) in
           record {
             from = omega arith;
@@ -53,7 +53,7 @@ returns-then-step-eq0 g c =
     let region = c.args.region in
     let lines = c.args.lines in
     let none = IsRowPutTo-none c.args.region c.args.lines.cells c.args.lines.before c.args.step c.args.rows_done c.args.matrix.width c.args.matrix.height (g.R.Source.items c.args.matrix.source) (g.M.Cells.items c.args.out) (g.M.Cells.items c.args.out) (λ n old. g.M.Cells.same_holder n old c.args.out) (λ n old. g.M.Cells.same_holder n old c.args.out) in
-    let step = further region c.args.matrix.width c.args.matrix.height (g.R.Source.items c.args.matrix.source) _ _ lines.cells lines.before c.args.step c.args.rows_done (c.args.rows_done + lines.cells) c.limit-from.result c.limit-to.result region.col_start region.col_end c.requires.ready.inside.rows_in_order (omega arith) (omega arith) (omega arith) (omega arith) (omega arith)
+    let step = further region c.args.matrix.width c.args.matrix.height (g.R.Source.items c.args.matrix.source) _ _ lines.cells lines.before c.args.step c.args.rows_done (c.args.rows_done + lines.cells) c.limit-from.result c.limit-to.result region.col_start region.col_end c.requires.ready.inside.rows_in_order c.requires.ready.inside.rows_inside (omega arith) (omega arith) c.requires.some_cols (omega arith)
     (inl c.if-step-eq0.true) c.limit-from.ensures c.limit-to.ensures (rw c.with_rows.ensures at c.put.ensures.transposed) in
     IsRowPutTo-all c.args.region c.args.lines.cells c.args.lines.before c.args.step c.args.rows_done c.args.matrix.width c.args.matrix.height (g.R.Source.items c.args.matrix.source) (g.M.Cells.items c.args.out) (g.M.Cells.items c.put.result) (λ n old. g.M.Cells.same_holder n old c.args.out) (λ n old. g.M.Cells.same_holder n old c.put.result) region.col_end refl (
       λ old put. step.0 old (none.0 old put),

@@ -26,7 +26,7 @@ loop-col-preserved g c =
     c.limit-from.ensures ∙ sym (limit-alike region lines.cells lines.before c.args.step order done region.col_start end col (inl c.if-step-eq0.true) (omega arith) (omega arith)) in
     let right : from + lines.cells ≡ limit region lines.cells lines.before c.args.step (done + lines.cells) col =
     omega (arith, left, limit-whole region lines.cells lines.before c.args.step order done col (c.requires.from col) c.requires.to) in
-    let step = further region c.args.matrix.width c.args.matrix.height (g.R.Source.items c.args.matrix.source) _ _ lines.cells lines.before c.args.step done (done + lines.cells) from (from + lines.cells) col end order (omega arith) (omega arith) (omega arith) (omega arith) (omega arith)
+    let step = further region c.args.matrix.width c.args.matrix.height (g.R.Source.items c.args.matrix.source) _ _ lines.cells lines.before c.args.step done (done + lines.cells) from (from + lines.cells) col end order c.requires.ready.inside.rows_inside (omega arith) c.loop-col.invariant.from (omega arith) (omega arith)
     (inl c.if-step-eq0.true) left right (rw (c.with_known_sides.ensures, c.with_cols-line.ensures, c.with_rows.ensures) at c.put_as_block-out.ensures.transposed) in
     record {
       from = omega arith;
@@ -59,7 +59,7 @@ loop-col-2-preserved g c =
     let col = c.loop-col-2.col in
     let right : from + lines.cells ≡ limit region lines.cells lines.before c.args.step (done + lines.cells) col =
     omega (arith, c.limit-from-in-loop-col-2.ensures, limit-whole region lines.cells lines.before c.args.step order done col (c.requires.from col) c.requires.to) in
-    let step = further region c.args.matrix.width c.args.matrix.height (g.R.Source.items c.args.matrix.source) _ _ lines.cells lines.before c.args.step done (done + lines.cells) from (from + lines.cells) col (col + 1) order (omega arith) (omega arith) (omega arith) (omega arith) (omega arith)
+    let step = further region c.args.matrix.width c.args.matrix.height (g.R.Source.items c.args.matrix.source) _ _ lines.cells lines.before c.args.step done (done + lines.cells) from (from + lines.cells) col (col + 1) order c.requires.ready.inside.rows_inside (omega arith) c.loop-col-2.invariant.from (omega arith) (omega arith)
     (inr refl) c.limit-from-in-loop-col-2.ensures right (rw (c.with_known_sides-in-loop-col-2.ensures, c.with_cols-line-in-loop-col-2.ensures, c.with_rows-in-loop-col-2.ensures) at c.put_as_block-out-in-loop-col-2.ensures.transposed) in
     record {
       from = omega arith;
