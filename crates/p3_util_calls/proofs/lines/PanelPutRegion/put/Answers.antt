@@ -21,10 +21,13 @@ returns-clause-transposed g c =
 
 pub returns-clause-holder : goal.returns-clause-holder
 returns-clause-holder g c =
-    let region = c.args.region in
-    let lines = c.args.self.0 in
-    let step = bit_and c.args.matrix.height (lines.cells - 1) in
-    let last : ℕ → ℕ = limit region lines.cells lines.before step c.loop-rows_done.rows_done in
-    let all : items_to region last ≡ items_of region =
-    items_to-all region last (λ x. limit-all region lines.cells lines.before step c.requires.ready.inside.rows_in_order c.most_before-most.result c.loop-rows_done.rows_done x (c.most_before-most.ensures.most x) (omega arith)) in
+    let last : ℕ → ℕ = limit c.args.region c.args.self.0.cells c.args.self.0.before (bit_and c.args.matrix.height (c.args.self.0.cells - 1)) c.loop-rows_done.rows_done in
+    let all : items_to c.args.region last ≡ items_of c.args.region =
+    items_to-all c.args.region last (λ x. limit-all c.args.region _ _ _ c.requires.ready.inside.rows_in_order c.most_before-most.result c.loop-rows_done.rows_done x (c.most_before-most.ensures.most x) (omega arith)) in
     rw all at c.loop-rows_done.invariant.holder
+
+pub loop-rows_done-preserved-then-next-rows : goal.loop-rows_done-preserved-then-next-rows
+loop-rows_done-preserved-then-next-rows g c = record { put = c.put_row-out.ensures.0 _ c.loop-rows_done.invariant.put; holder = c.put_row-out.ensures.1 _ c.loop-rows_done.invariant.holder }
+
+pub loop-rows_done-preserved : goal.loop-rows_done-preserved
+loop-rows_done-preserved g c = record { put = c.put_edge_row-out.ensures.0 _ c.loop-rows_done.invariant.put; holder = c.put_edge_row-out.ensures.1 _ c.loop-rows_done.invariant.holder }
