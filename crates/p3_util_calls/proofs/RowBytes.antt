@@ -1,6 +1,6 @@
 -- Rows of bytes, for `src/bytes.rt`.
 use Rattle.std.proofs.Common.{ℕ, ◌≡◌, ◌∙◌, ◌*◌, ◌/◌, ◌%◌, ◌^◌, ◌<◌, ap, inl, refl, sym, div-add-mod', arith}
-use Rattle.std.proofs.Math.Nat.{div-one, le-mul_of_pos_right, mod-one, mod_self, mul-div_cancel_left, mul-mod_left, mul_assoc, mul_comm, mul_right_comm, pos_of_ne-zero}
+use Rattle.std.proofs.Math.Nat.{le-mul_of_pos_right, mul-div_cancel_left, mul-mod_left, mul_assoc, mul_comm, mul_right_comm, pos_of_ne-zero}
 use Rattle.p3_util_kernels.specs.Reversal.{FitsRows}
 
 -- the items of a row have all of its bytes

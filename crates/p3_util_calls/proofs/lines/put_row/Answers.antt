@@ -1,5 +1,5 @@
 -- Each turn of a loop puts some more columns one line further.
-use Rattle.std.proofs.Common.{◌≡◌, ℕ, ◌+◌, ◌<◌, ◌≤◌, inl, inr, refl, sym, ◌∙◌, arith}
+use Rattle.std.proofs.Common.{◌≡◌, ◌+◌, inl, inr, refl, sym, ◌∙◌, arith}
 use Rattle.p3_util_calls.specs.Lines.{limit}
 use Rattle.p3_util_calls.proofs.LinesLemmas.{IsRowPutTo-all, IsRowPutTo-none, further, limit-alike, limit-whole}
 use Rattle.p3_util_calls.proofs.lines.put_row.Goals as goal
@@ -32,8 +32,7 @@ loop-col-preserved g c =
       from = omega arith;
       to = omega arith;
       same_length = c.put_as_block-out.ensures.transposed.same_length ∙ c.loop-col.invariant.same_length;
-      row = (λ old put. step.0 old (c.loop-col.invariant.row.0 old put), λ old holder.
-          g.met.M.Cells.same_holder_trans _ _ _ _ _ _ (c.loop-col.invariant.row.1 old holder) (rw (c.with_known_sides.ensures, c.with_cols-line.ensures, c.with_rows.ensures) at c.put_as_block-out.ensures.holder) step.1);
+      row = (λ old put. step.0 old (c.loop-col.invariant.row.0 old put), λ old holder. g.met.M.Cells.same_holder_trans _ _ _ _ _ _ (c.loop-col.invariant.row.1 old holder) (rw (c.with_known_sides.ensures, c.with_cols-line.ensures, c.with_rows.ensures) at c.put_as_block-out.ensures.holder) step.1);
     }
 
 pub loop-col-2-init : goal.loop-col-2-init
@@ -65,9 +64,7 @@ loop-col-2-preserved g c =
       from = omega arith;
       to = omega arith;
       same_length = c.put_as_block-out-in-loop-col-2.ensures.transposed.same_length ∙ c.loop-col-2.invariant.same_length;
-      row = (λ old put. step.0 old (c.loop-col-2.invariant.row.0 old put), λ old holder.
-          g.met.M.Cells.same_holder_trans _ _ _ _ _ _ (c.loop-col-2.invariant.row.1 old holder)
-          (rw (c.with_known_sides-in-loop-col-2.ensures, c.with_cols-line-in-loop-col-2.ensures, c.with_rows-in-loop-col-2.ensures) at c.put_as_block-out-in-loop-col-2.ensures.holder) step.1);
+      row = (λ old put. step.0 old (c.loop-col-2.invariant.row.0 old put), λ old holder. g.met.M.Cells.same_holder_trans _ _ _ _ _ _ (c.loop-col-2.invariant.row.1 old holder) (rw (c.with_known_sides-in-loop-col-2.ensures, c.with_cols-line-in-loop-col-2.ensures, c.with_rows-in-loop-col-2.ensures) at c.put_as_block-out-in-loop-col-2.ensures.holder) step.1);
     }
 
 pub returns : goal.returns
