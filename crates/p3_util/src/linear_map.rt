@@ -83,7 +83,9 @@ impl<K: Eq, V> LinearMap<K, V> {
         ensures rest { result ≡ values_of self.now }
         ensures runs { ShowsInOrder (deref {X = V}) }
     {
-        Values::new(&self.pairs)
+        Values {
+            pairs: self.pairs.iter(),
+        }
     }
 
     /// The keys, in order.
@@ -91,7 +93,9 @@ impl<K: Eq, V> LinearMap<K, V> {
         ensures rest { result ≡ keys_of self.now }
         ensures runs { ShowsInOrder (deref {X = K}) }
     {
-        Keys::new(&self.pairs)
+        Keys {
+            pairs: self.pairs.iter(),
+        }
     }
 
     /// The pairs, in order.
@@ -99,7 +103,9 @@ impl<K: Eq, V> LinearMap<K, V> {
         ensures rest { result ≡ self.now }
         ensures runs { ShowsInOrder (deref {X = K × V}) }
     {
-        Iter::new(&self.pairs)
+        Iter {
+            pairs: self.pairs.iter(),
+        }
     }
 
     /// The index of the pair whose key equals `k`, or `None` if there is no such pair.

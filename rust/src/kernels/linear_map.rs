@@ -46,17 +46,23 @@ impl<K: Eq, V> LinearMap<K, V> {
 
     /// The values, in order.
     pub fn values(&self) -> Values<'_, K, V> {
-        Values::new(&self.pairs)
+        Values {
+            pairs: self.pairs.iter(),
+        }
     }
 
     /// The keys, in order.
     pub fn keys(&self) -> Keys<'_, K, V> {
-        Keys::new(&self.pairs)
+        Keys {
+            pairs: self.pairs.iter(),
+        }
     }
 
     /// The pairs, in order.
     pub fn iter(&self) -> Iter<'_, K, V> {
-        Iter::new(&self.pairs)
+        Iter {
+            pairs: self.pairs.iter(),
+        }
     }
 
     /// The index of the pair whose key equals `k`, or `None` if there is no such pair.

@@ -3,7 +3,6 @@
 ghost use Rattle.std.specs.Prelude.{◌≡◌, ⊤, Some, length, IfSome};
 ghost use Rattle.std.specs.Iterator.{item_count, at_most, UpTo};
 ghost use Rattle.std.specs.Iterator.SizeHint.{IsWithinCount};
-ghost use Rattle.std.specs.Map.{keys_of, values_of};
 ghost use Rattle.std.specs.Map.Iter.{TakesFirst, TakesLast, deref};
 
 use std::alloc::AllocError;
@@ -15,7 +14,7 @@ use std::slice;
 #[derive(Debug, Drop)]
 #[must_use = "iterators are lazy and do nothing unless consumed"]
 pub struct Iter<'a, K, V> {
-    pairs: slice::Iter<'a, (K, V)>,
+    pub(super) pairs: slice::Iter<'a, (K, V)>,
 }
 
 impl<'a, K, V> Model for Iter<'a, K, V> {
@@ -37,16 +36,6 @@ impl<'a, K, V> Clone for Iter<'a, K, V> {
         Ok(Iter {
             pairs: self.pairs.clone()?,
         })
-    }
-}
-
-impl<'a, K, V> Iter<'a, K, V> {
-    pub(super) fn new(pairs: &'a [(K, V)]) -> Self
-        ensures { result ≡ pairs.now }
-    {
-        Iter {
-            pairs: pairs.iter(),
-        }
     }
 }
 
@@ -94,7 +83,7 @@ impl<'a, K, V> FusedIterator for Iter<'a, K, V> {}
 #[derive(Debug, Drop)]
 #[must_use = "iterators are lazy and do nothing unless consumed"]
 pub struct Keys<'a, K, V> {
-    pairs: slice::Iter<'a, (K, V)>,
+    pub(super) pairs: slice::Iter<'a, (K, V)>,
 }
 
 impl<'a, K, V> Model for Keys<'a, K, V> {
@@ -117,16 +106,6 @@ impl<'a, K, V> Clone for Keys<'a, K, V> {
         Ok(Keys {
             pairs: self.pairs.clone()?,
         })
-    }
-}
-
-impl<'a, K, V> Keys<'a, K, V> {
-    pub(super) fn new(pairs: &'a [(K, V)]) -> Self
-        ensures { result ≡ keys_of pairs.now }
-    {
-        Keys {
-            pairs: pairs.iter(),
-        }
     }
 }
 
@@ -174,7 +153,7 @@ impl<'a, K, V> FusedIterator for Keys<'a, K, V> {}
 #[derive(Debug, Drop)]
 #[must_use = "iterators are lazy and do nothing unless consumed"]
 pub struct Values<'a, K, V> {
-    pairs: slice::Iter<'a, (K, V)>,
+    pub(super) pairs: slice::Iter<'a, (K, V)>,
 }
 
 impl<'a, K, V> Model for Values<'a, K, V> {
@@ -197,16 +176,6 @@ impl<'a, K, V> Clone for Values<'a, K, V> {
         Ok(Values {
             pairs: self.pairs.clone()?,
         })
-    }
-}
-
-impl<'a, K, V> Values<'a, K, V> {
-    pub(super) fn new(pairs: &'a [(K, V)]) -> Self
-        ensures { result ≡ values_of pairs.now }
-    {
-        Values {
-            pairs: pairs.iter(),
-        }
     }
 }
 

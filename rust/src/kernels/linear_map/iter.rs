@@ -9,7 +9,7 @@ use core::iter::FusedIterator;
 #[derive(Debug)]
 #[must_use = "iterators are lazy and do nothing unless consumed"]
 pub struct Iter<'a, K, V> {
-    pairs: slice::Iter<'a, (K, V)>,
+    pub(super) pairs: slice::Iter<'a, (K, V)>,
 }
 
 /// A clone has the same pairs left. It allocates nothing.
@@ -17,14 +17,6 @@ impl<'a, K, V> Clone for Iter<'a, K, V> {
     fn clone(&self) -> Iter<'a, K, V> {
         Iter {
             pairs: self.pairs.clone(),
-        }
-    }
-}
-
-impl<'a, K, V> Iter<'a, K, V> {
-    pub(super) fn new(pairs: &'a [(K, V)]) -> Self {
-        Iter {
-            pairs: pairs.iter(),
         }
     }
 }
@@ -63,7 +55,7 @@ impl<'a, K, V> FusedIterator for Iter<'a, K, V> {}
 #[derive(Debug)]
 #[must_use = "iterators are lazy and do nothing unless consumed"]
 pub struct Keys<'a, K, V> {
-    pairs: slice::Iter<'a, (K, V)>,
+    pub(super) pairs: slice::Iter<'a, (K, V)>,
 }
 
 /// A clone has the same keys left. It allocates nothing.
@@ -71,14 +63,6 @@ impl<'a, K, V> Clone for Keys<'a, K, V> {
     fn clone(&self) -> Keys<'a, K, V> {
         Keys {
             pairs: self.pairs.clone(),
-        }
-    }
-}
-
-impl<'a, K, V> Keys<'a, K, V> {
-    pub(super) fn new(pairs: &'a [(K, V)]) -> Self {
-        Keys {
-            pairs: pairs.iter(),
         }
     }
 }
@@ -117,7 +101,7 @@ impl<'a, K, V> FusedIterator for Keys<'a, K, V> {}
 #[derive(Debug)]
 #[must_use = "iterators are lazy and do nothing unless consumed"]
 pub struct Values<'a, K, V> {
-    pairs: slice::Iter<'a, (K, V)>,
+    pub(super) pairs: slice::Iter<'a, (K, V)>,
 }
 
 /// A clone has the same values left. It allocates nothing.
@@ -125,14 +109,6 @@ impl<'a, K, V> Clone for Values<'a, K, V> {
     fn clone(&self) -> Values<'a, K, V> {
         Values {
             pairs: self.pairs.clone(),
-        }
-    }
-}
-
-impl<'a, K, V> Values<'a, K, V> {
-    pub(super) fn new(pairs: &'a [(K, V)]) -> Self {
-        Values {
-            pairs: pairs.iter(),
         }
     }
 }
