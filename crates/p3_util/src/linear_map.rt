@@ -155,9 +155,9 @@ impl<K: Eq + Drop, V> LinearMap<K, V> {
         if let Some(place) = self.place_of(&k) {
             return Ok(Some(replace(&mut self.pairs[place].1, v)));
         }
-        if self.pairs.reserve(1).is_err() {
+        let Ok(()) = self.pairs.reserve(1) else {
             return Err(NoRoom { given: (k, v) });
-        }
+        };
         self.pairs.push_reserved((k, v));
         Ok(None)
     }
@@ -180,9 +180,9 @@ impl<K: Eq + Drop, V> LinearMap<K, V> {
             return Ok(&mut self.pairs[place].1);
         }
         let last = self.len();
-        if self.pairs.reserve(1).is_err() {
+        let Ok(()) = self.pairs.reserve(1) else {
             return Err(NoRoom { given: k });
-        }
+        };
         self.pairs.push_reserved((k, f()));
         Ok(&mut self.pairs[last].1)
     }

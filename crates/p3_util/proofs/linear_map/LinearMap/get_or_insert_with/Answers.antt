@@ -1,6 +1,7 @@
 -- The loan of a value that was there and of one that was pushed: each writes the value of the key,
 -- and the keys stay distinct.
-use Rattle.std.proofs.Common.{◌∙◌, sym, refl, rules}
+use Rattle.std.proofs.Common.{◌≡◌, ◌∙◌, None, sym, refl}
+use Rattle.p3_util.specs.LinearMap.{value_at}
 use Rattle.p3_util.proofs.MapLemmas.{lookup_nowhere, lookup_at_place, put_at_place, put_new, distinct_set_at_place, distinct_new, same_loan, write_pushed, pair_pushed}
 use Rattle.p3_util.proofs.linear_map.LinearMap.get_or_insert_with.Goals as goal
 
@@ -14,15 +15,15 @@ returns-in-Some g c =
     let at = c.index_mut.ensures.value in
     rw (← c.self.view_is) (same_loan (put_at_place g.K.PartialEq.eq _ _ _ _ found at), record { writes_back = tt; value = rw (← lookup_at_place g.K.PartialEq.eq _ _ _ _ found at) refl; given = tt; refuses_new = tt; known = λ h. refl })
 
-pub returns-then-is_err : goal.returns-then-is_err
-returns-then-is_err g c =
-    let absent = rw c.self.view_is at (lookup_nowhere g.K.PartialEq.eq _ _ c.in_default.ensures) in
-    (rw (c.reserve.ensures.items, c.self.view_is) refl, record { writes_back = tt; value = tt; given = refl; refuses_new = sym absent; known = rw (← absent) (λ h. h) })
+pub returns-in_default-reserve : goal.returns-in_default-reserve
+returns-in_default-reserve g c =
+    let absent : value_at g.K.PartialEq.eq c.args.self.now c.args.k ≡ None = rw (← c.self.view_is) (sym (lookup_nowhere g.K.PartialEq.eq _ _ c.in_default.ensures)) in
+    (rw (c.reserve.ensures.items, c.self.view_is) refl, record { writes_back = tt; value = tt; given = refl; refuses_new = absent; known = rw absent (λ h. h) })
 
 pub f-requires : goal.f-requires
 f-requires g c =
-    let absent = rw c.self.view_is at (lookup_nowhere g.K.PartialEq.eq _ _ c.in_default.ensures) in
-    let h = c.requires (sym absent) in search rules
+    let absent : value_at g.K.PartialEq.eq c.args.self.now c.args.k ≡ None = rw (← c.self.view_is) (sym (lookup_nowhere g.K.PartialEq.eq _ _ c.in_default.ensures)) in
+    c.requires absent
 
 pub invariant_of-self-lent-2 : goal.invariant_of-self-lent-2
 invariant_of-self-lent-2 g c w =

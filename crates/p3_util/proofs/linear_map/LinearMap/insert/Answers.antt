@@ -1,4 +1,5 @@
-use Rattle.std.proofs.Common.{◌≡◌, ◌∙◌, sym, ap, get_or, None}
+use Rattle.std.proofs.Common.{◌≡◌, ◌∙◌, sym, refl, ap, get_or, None}
+use Rattle.std.specs.Map.{keys_of}
 use Rattle.p3_util.specs.LinearMap.{value_at}
 use Rattle.p3_util.proofs.MapLemmas.{lookup_nowhere, lookup_at_place, put_at_place, keys_set_at_place, distinct_set_at_place, put_new, distinct_new}
 use Rattle.p3_util.proofs.linear_map.LinearMap.insert.Goals as goal
@@ -27,28 +28,19 @@ invariant_of-self g c =
 pub returns-in-Some-clause-distinct : goal.returns-in-Some-clause-distinct
 returns-in-Some-clause-distinct g c = invariant_of-self g c
 
-pub returns-then-is_err-clause-refuses_new : goal.returns-then-is_err-clause-refuses_new
-returns-then-is_err-clause-refuses_new g c = sym (lookup_nowhere g.K.PartialEq.eq _ _ c.in_default.ensures)
-
-pub returns-then-is_err-clause-known : goal.returns-then-is_err-clause-known
-returns-then-is_err-clause-known g c =
+pub returns-in_default-reserve : goal.returns-in_default-reserve
+returns-in_default-reserve g c =
     let absent : None ≡ value_at g.K.PartialEq.eq c.args.self.now c.args.k = lookup_nowhere g.K.PartialEq.eq _ _ c.in_default.ensures in
-    rw (← absent) (λ h. h)
+    let same : c.reserve.new.self.items ≡ c.args.self.now = rw c.reserve.ensures.items c.self.view_is in
+    record { old = tt; put = tt; given = refl; unchanged = same; refuses_new = sym absent; known = rw (← absent) (λ h. h); known_keys = λ _. ap keys_of same; distinct = rw c.reserve.ensures.items c.self.invariant }
 
 pub invariant_of-self-2 : goal.invariant_of-self-2
 invariant_of-self-2 g c =
     let absent = lookup_nowhere g.K.PartialEq.eq _ _ c.in_default.ensures in
     rw (c.push_reserved.ensures.items, c.reserve.ensures.items, c.self.view_is) (distinct_new g.K.PartialEq.eq _ _ absent _ g.met.K.Eq.laws (rw c.self.view_is at c.self.invariant))
 
-pub returns-clause-old : goal.returns-clause-old
-returns-clause-old g c = lookup_nowhere g.K.PartialEq.eq _ _ c.in_default.ensures
-
-pub returns-clause-put : goal.returns-clause-put
-returns-clause-put g c =
-    rw (c.push_reserved.ensures.items, c.reserve.ensures.items, c.self.view_is) (sym (put_new g.K.PartialEq.eq _ _ (lookup_nowhere g.K.PartialEq.eq _ _ c.in_default.ensures) _))
-
-pub returns-clause-known_keys : goal.returns-clause-known_keys
-returns-clause-known_keys g c = rw (← lookup_nowhere g.K.PartialEq.eq _ _ c.in_default.ensures) (λ h. cc)
-
-pub returns-clause-distinct : goal.returns-clause-distinct
-returns-clause-distinct g c = invariant_of-self-2 g c
+pub returns : goal.returns
+returns g c =
+    let absent : None ≡ value_at g.K.PartialEq.eq c.args.self.now c.args.k = lookup_nowhere g.K.PartialEq.eq _ _ c.in_default.ensures in
+    let new = put_new g.K.PartialEq.eq c.args.self.now c.args.k absent c.args.v in
+    record { old = absent; put = rw (c.push_reserved.ensures.items, c.reserve.ensures.items, c.self.view_is) (sym new); given = tt; unchanged = tt; refuses_new = tt; known = λ h. refl; known_keys = rw (← absent) (λ h. cc); distinct = invariant_of-self-2 g c }
