@@ -96,16 +96,8 @@ fn next_row<T: Default + Drop, const N: usize>(items: &mut IntoIter<T>) -> [T; N
     ensures width { length result ≡ N }
 {
     let mut row = array::from_fn(|_| T::default());
-    fill_row(&mut row, items);
-    row
-}
-
-/// Replaces the items of `row` with the next items.
-fn fill_row<T: Drop>(row: &mut [T], items: &mut IntoIter<T>)
-    requires { length row.old ≤ length (into_iter_items items.old) }
-    ensures { into_iter_items items.old ≡ row.new ++ into_iter_items items.new }
-{
-    for i in 0..row.len() {
+    for i in 0..N {
         row[i] = items.next().unwrap();
     }
+    row
 }
