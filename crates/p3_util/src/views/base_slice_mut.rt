@@ -38,7 +38,6 @@ pub fn as_base_slice_mut<Base, const N: usize>(buf: &mut [[Base; N]]) -> BaseSli
     ensures len { length (countable_items result.rows.now) ≡ length buf.old * N }
     ensures places { IsFlat N buf.old (countable_items result.rows.now) }
 {
-    prove!(buf.as_flattened().len() == <[[Base; N]]>::len(buf) * N);
     prove!(each_in_its_row(buf));
     Flattened { rows: buf }
 }
