@@ -1,7 +1,7 @@
 -- What a write or an exchange in the rows does to the list of all their items.
 use Rattle.std.proofs.Common.{ℕ, zero, suc, ◌≡◌, ◌+◌, ◌-◌, ◌*◌, ◌<◌, ◌≤◌, ◌≢◌, List, [], ◌∷◌, ◌++◌, length, get_or, set, take, drop, refl, sym, ap, ◌∙◌, length-append, get_or-set_other, get_or-set_same, zero-add, add_assoc, ◌^◌, ◌/◌, ◌%◌, inl, inr, max, subst, Some, slice_get, nat_lt, cond, true, false, div-lt_iff_lt-mul, mul-le-mul_right, swap, arith}
 use Rattle.std.proofs.Math.Seq.{take-set-lt}
-use Rattle.std.proofs.lemmas.List.{length-set, set-append_left, set-set, take-set, drop-set-add, drop-set-lt, take-append-drop, get_or-take, get_or_default, take_all, get_or-drop}
+use Rattle.std.proofs.lemmas.List.{length-set, set-append_left, set-set, take-set, drop-set-add, drop-set-lt, take-append-drop, get_or-take, take_all, get_or-drop}
 use Rattle.std.proofs.lemmas.Option.{slice_get-get_or, slice_get_read}
 use Rattle.std.proofs.lemmas.List.Edits.{swap_is}
 use Rattle.std.proofs.lemmas.List.Concat.{get_or-flat_map}
@@ -162,18 +162,14 @@ module _ {A : Type 0} where
   pub countable-none : (rows : List (List A)) → 2 ^ 64 ≤ length (flat rows) → countable_items rows ≡ []
   countable-none rows many = rw (le-ltb (length (flat rows)) (2 ^ 64) many) refl
 
-  -- no usize can count the items if one more row follows as many rows of n items as it can count
-  pub countable-past : (rows : List (List A)) (n m : ℕ) (row all : List A) → m ≡ max n 1 → (2 ^ 64 - 1) / m < length rows → length rows < 2 ^ 64 → row ≡ get_or rows ((2 ^ 64 - 1) / m) row → length row ≡ n
-      → all ≡ flat (take ((2 ^ 64 - 1) / m) rows) → length all ≡ (2 ^ 64 - 1) / m * n → countable_items rows ≡ []
-  countable-past rows zero m row all at-least lt few is len before begins = let one : m ≡ 1 = omega arith in absurd (omega (arith, rw one at lt))
-  countable-past rows (suc k) m row all at-least lt few is len before begins =
+  -- no usize can count the items of more rows of n items than the largest number divided by n
+  pub countable-past : (rows : List (List A)) (n m : ℕ) → m ≡ max n 1 → (2 ^ 64 - 1) / m < length rows → length rows < 2 ^ 64 → length (flat rows) ≡ length rows * n → countable_items rows ≡ []
+  countable-past rows zero m at-least lt few len = let one : m ≡ 1 = omega arith in absurd (omega (arith, rw one at lt))
+  countable-past rows (suc k) m at-least lt few len =
       let n = suc k in
       let most = (2 ^ 64 - 1) / m in
       let same : m ≡ n = omega arith in
-      let there : get_or rows most [] ≡ row = sym (get_or_default rows most row [] lt) ∙ sym is in
-      let inside : k < length (get_or rows most []) = rw there (omega arith) in
-      let last : start rows most + k < length (flat rows) = start-below rows most k lt inside in
-      let starts : start rows most ≡ most * n = ap length (sym before) ∙ begins in
+      let more : (most + 1) * n ≤ length rows * n = mul-le-mul_right n (omega arith) in
       let whole : n * most + (2 ^ 64 - 1) % n ≡ 2 ^ 64 - 1 = rw same (omega arith) in
       countable-none rows (omega arith)
 

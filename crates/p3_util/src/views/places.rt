@@ -13,10 +13,8 @@ pub(super) fn countable<T, const N: usize>(rows: &[[T; N]]) -> &[T]
     if rows.len() <= most {
         return rows.as_flattened();
     }
-    // The first `most` rows have as many items as a `usize` can count, and there is at least one
-    // more row.
-    prove!(rows[..most].as_flattened().len() == most * N);
-    prove!(width_of(&rows[most]) == N);
+    // More than `most` rows of `N` items have more items than a `usize` can count.
+    prove!(each_in_its_row(rows));
     rows[..0].as_flattened()
 }
 
