@@ -34,7 +34,9 @@ pub fn butterfly_stage2<T: Copy>(block: [[T; 4]; 4]) -> [[T; 4]; 4]
     ensures { IsStageTwo block result }
 {
     let [a, b, c, d] = block;
-    stage2_of_rows(a, b, c, d)
+    let [w, y] = stage2_of_rows(a, c);
+    let [x, z] = stage2_of_rows(b, d);
+    [w, x, y, z]
 }
 
 /// Exchanges the items in the odd columns of row `a` with those in the even columns of row `b`.
@@ -45,15 +47,10 @@ fn stage1_of_rows<T: Copy>(a: [T; 4], b: [T; 4]) -> [[T; 4]; 2]
     [[a[0], b[0], a[2], b[2]], [a[1], b[1], a[3], b[3]]]
 }
 
-/// Makes two rows from rows 0 and 2: one of their first halves, and one of their second halves.
-/// Does the same with rows 1 and 3.
-fn stage2_of_rows<T: Copy>(a: [T; 4], b: [T; 4], c: [T; 4], d: [T; 4]) -> [[T; 4]; 4]
-    ensures { IsStageTwo (a ∷ b ∷ c ∷ d ∷ []) result }
+/// Exchanges the second half of row `a` with the first half of row `b`.
+fn stage2_of_rows<T: Copy>(a: [T; 4], b: [T; 4]) -> [[T; 4]; 2]
+    ensures { (P Q q : ℕ) → P < 2 → Q < 2 → q < 2
+        → item_at result P (2 * Q + q) ≡ item_at (a ∷ b ∷ []) Q (2 * P + q) }
 {
-    [
-        [a[0], a[1], c[0], c[1]],
-        [b[0], b[1], d[0], d[1]],
-        [a[2], a[3], c[2], c[3]],
-        [b[2], b[3], d[2], d[3]],
-    ]
+    [[a[0], a[1], b[0], b[1]], [a[2], a[3], b[2], b[3]]]
 }
