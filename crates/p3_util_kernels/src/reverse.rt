@@ -90,7 +90,6 @@ pub fn reverse_slice_row_index_bits<F>(vals: &mut [F], row_width: usize)
 ///
 /// A list of n items takes at most 3n/2 swaps. The length must be zero or a power of two, which
 /// `fits_rows(m.len(), 1)` checks.
-#[tactic(auto, using(crate::proofs::ReverseLemmas::SwapCounts::reversal_bound, crate::proofs::ReverseLemmas::Reversal::reversed_place))]
 pub fn reverse_index_bits_on<S: Places>(m: &mut Swaps<S>)
     requires { IsReversible (length (S.items m.old.holder)) }
     ensures order { IsReversal (S.items m.old.holder) (S.items m.new.holder) }

@@ -1,11 +1,11 @@
 -- The facts of any long reversal, for this one.
-use Rattle.std.proofs.Common.{arith}
+use Rattle.std.proofs.Common.{rules}
 use Rattle.p3_util_kernels.proofs.ReverseLemmas.Reversal.{reversed_place}
 use Rattle.p3_util_kernels.proofs.ReverseLemmas.SwapCounts.{long_bound}
 use Rattle.p3_util_kernels.proofs.reverse.reverse_index_bits_long.Goals as goal
 
 pub returns-clause-at : goal.returns-clause-at
-returns-clause-at g c = grind (arith, reversed_place)
+returns-clause-at g c = search (rules, reversed_place)
 
 pub returns-clause-bound : goal.returns-clause-bound
 returns-clause-bound g c = long_bound _ c.requires.fits c.requires.not_short

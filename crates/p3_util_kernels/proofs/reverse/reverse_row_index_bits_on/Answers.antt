@@ -7,4 +7,4 @@ pub returns-clause-bound : goal.returns-clause-bound
 returns-clause-bound g c = rows_bound _ _ c.requires
 
 pub returns-clause-at : goal.returns-clause-at
-returns-clause-at g c = search rules
+returns-clause-at g c k r j = let at = c.reverse_rows.ensures.order.places k r j in search (rules, at)
