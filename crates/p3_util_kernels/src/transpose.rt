@@ -84,7 +84,6 @@ pub fn transpose<T: Copy>(input: &[T], output: &mut [T], width: usize, height: u
 
 /// The kernel of [`transpose_region_on`]. It says by the bounds of the region, too, which
 /// cells it puts and which stay.
-#[tactic(auto, using(crate::proofs::TransposeLemmas::Region::region_put))]
 #[inline(always)]
 fn put_region<M: Blocked, R: Ahead<Item = M::Item> + Copy>(
     out: M,

@@ -82,18 +82,12 @@ module _ {A : Type 0} (region : Region) (width height : ℕ) (input old now new 
       let done = record region { col_end = end } in
       IsRegionTransposed-cut width height input done _ _ old now new low (IsCut-cols done mid from to)
 
--- A cell of the region has the item of its row and column, and each other cell stays. Both say the
--- bounds of the region one by one.
-module _ {A : Type 0} (region : Region) (width height : ℕ) (input old new : List A) where
-  pub region_put : IsRegionTransposed region width height input old new → (x y : ℕ) → region.row_start ≤ y → y < region.row_end
-      → region.col_start ≤ x → x < region.col_end → slice_get new (x * height + y) ≡ slice_get input (y * width + x)
-  region_put put x y row_from row_to col_from col_to =
-      put.places x y (record { row_from = row_from; row_to = row_to; col_from = col_from; col_to = col_to })
-
-  pub region_stay : IsRegionTransposed region width height input old new → region.row_end ≤ height → (x y : ℕ) → y < height
-      → ((y < region.row_start) ⊎ (region.row_end ≤ y) ⊎ (x < region.col_start) ⊎ (region.col_end ≤ x))
-      → slice_get new (x * height + y) ≡ slice_get old (x * height + y)
-  region_stay put rows x y h out = put.others (x * height + y) (λ a b within e.
-      let below : b < height = omega (arith, within.row_to, rows) in
-      let same : (x ≡ a) × (y ≡ b) = same_from_place x y a b height h below e in
-      grind (arith, same, within, out))
+-- A cell whose row or column is outside of the region stays.
+pub region_stay : {A : Type 0} (region : Region) (width height : ℕ) (input old new : List A) → IsRegionTransposed region width height input old new
+    → region.row_end ≤ height → (x y : ℕ) → y < height
+    → ((y < region.row_start) ⊎ (region.row_end ≤ y) ⊎ (x < region.col_start) ⊎ (region.col_end ≤ x))
+    → slice_get new (x * height + y) ≡ slice_get old (x * height + y)
+region_stay region width height input old new put rows x y h out = put.others (x * height + y) (λ a b within e.
+    let below : b < height = omega (arith, within.row_to, rows) in
+    let same : (x ≡ a) × (y ≡ b) = same_from_place x y a b height h below e in
+    grind (arith, same, within, out))
