@@ -29,9 +29,9 @@ loop-row-preserved g c =
     record {
       from = omega arith;
       to = omega arith;
-      transposed = IsRegionTransposed-rows c.args.region _ _ input _ _ _ c.loop-row.row next (omega arith) (omega arith) (omega arith) c.loop-row.invariant.transposed put.0;
-      holder = g.met.M.Cells.same_holder_trans _ (items_of part) _ _ _ _ c.loop-row.invariant.holder put.1 (IsCut-rows done c.loop-row.row (omega arith) (omega arith)).items;
+      transposed = IsRegionTransposed-rows c.args.region _ _ input _ _ _ c.loop-row.row next c.loop-row.invariant.from (omega arith) (omega arith) c.loop-row.invariant.transposed put.0;
+      holder = g.met.M.Cells.same_holder_trans _ (items_of part) _ _ _ _ c.loop-row.invariant.holder put.1 (IsCut-rows done c.loop-row.row c.loop-row.invariant.from (omega arith)).items;
     }
 
 pub returns-clause-transposed : goal.returns-clause-transposed
-returns-clause-transposed g c = let end : c.loop-row.row ≡ c.args.region.row_end = omega arith in rw end at c.loop-row.invariant.transposed
+returns-clause-transposed g c = let end : c.loop-row.row ≡ c.args.region.row_end = omega (arith, c.loop-row.invariant.to, c.loop-row-test.false) in rw end at c.loop-row.invariant.transposed
