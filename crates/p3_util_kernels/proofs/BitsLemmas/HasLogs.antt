@@ -1,13 +1,10 @@
 -- A number that meets the precondition of a strict logarithm is a power.
-use Rattle.std.proofs.Common.{◌≡◌, ℕ, zero, suc, true, ◌==◌, ◌-◌, ◌&&◌, not, ◌^◌, ◌≢◌, bit_and, inl, inr}
+use Rattle.std.proofs.Common.{◌≡◌, ℕ, zero, suc, true, ◌==◌, ◌-◌, ◌&&◌, not, ◌^◌, bit_and, inl, inr}
 use Rattle.std.proofs.lemmas.Bool.{and_parts, or_cases, eqb-true, eqb-false, not-true, false≢true}
 use Rattle.std.specs.Int.{IsPowerOfTwo, is_power_of_two}
 use Rattle.p3_util_kernels.specs.Powers.{HasLog2, HasLog3, IsPowerOfThree, any_below}
 use Rattle.p3_util_kernels.proofs.ReverseLemmas.Lengths.{unshared}
 use Rattle.p3_util_kernels.proofs.BitsLemmas.Powers.{power_of_two_test}
-
-some-power : (n : ℕ) → n ≢ 0 → bit_and n (n - 1) ≡ 0 → IsPowerOfTwo n
-some-power n nonzero none = elim (unshared n none) [ inl z ↦ absurd (nonzero z) | inr power ↦ power ]
 
 pub power_of_two : (n : ℕ) → HasLog2 n → IsPowerOfTwo n
 power_of_two n (inl power) = power
@@ -15,7 +12,7 @@ power_of_two n (inr test) =
     elim (or_cases (not (n == 0) && bit_and n (n - 1) == 0) (is_power_of_two n) test) [
       | inl computed ↦
           let parts = and_parts (not (n == 0)) (bit_and n (n - 1) == 0) computed in
-          some-power n (eqb-false n 0 (not-true (n == 0) parts.0)) (eqb-true (bit_and n (n - 1)) 0 parts.1)
+          elim (unshared n (eqb-true (bit_and n (n - 1)) 0 parts.1)) [ inl z ↦ absurd (eqb-false n 0 (not-true (n == 0) parts.0) z) | inr power ↦ power ]
       | inr tested ↦ (power_of_two_test n).0 tested
     ]
 

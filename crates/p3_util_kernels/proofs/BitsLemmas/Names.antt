@@ -95,11 +95,8 @@ short_name-marked t i e =
     let (less, here, before) = position-Some is_mark t i 0 (sym e) in
     rw (add-one, name_pieces-first t i less before here) refl
 
-mark_ascii : (b : ℕ) → is_mark b ≡ true → b < 128
-mark_ascii b e = grind (arith, nat_tests, e)
-
 -- a text may be cut after a mark
 pub cut_after_mark : (t : List ℕ) (i : ℕ) → IsUtf8 t → Some i ≡ position is_mark t → (i < length t) × IsCharBoundary t (i + 1)
 cut_after_mark t i text e =
     let (less, here, before) = position-Some is_mark t i 0 (sym e) in
-    (less, IsCharBoundary-after_ascii t i text less (mark_ascii (get_or t i 0) here))
+    (less, IsCharBoundary-after_ascii t i text less (grind (arith, nat_tests, here)))

@@ -10,13 +10,9 @@ use Rattle.p3_util_kernels.proofs.BitsLemmas.Logarithms.{clog_power, clog-zero}
 use Rattle.p3_util_kernels.proofs.GridLemmas.Pairs.{twice-pairs}
 
 -- each swap takes two places, and there are no more places than items
-pub short_swaps-le : (k : ℕ) → 2 * short_swaps k ≤ 2 ^ k
-short_swaps-le k = omega arith
-
--- for rows: at most half as many swaps as items
 pub row_swaps-le : (row_width k : ℕ) → row_width * short_swaps k ≤ row_width * 2 ^ k / 2
 row_swaps-le row_width k =
-    let scaled : row_width * (2 * short_swaps k) ≤ row_width * 2 ^ k = mul-le-mul_left row_width (short_swaps-le k) in
+    let scaled : row_width * (2 * short_swaps k) ≤ row_width * 2 ^ k = mul-le-mul_left row_width (omega arith) in
     omega arith
 
 -- the 2 ^ h chunks of 2 ^ c items are rows
