@@ -6,7 +6,7 @@ use Rattle.p3_util_kernels.proofs.transpose.ways.ColumnsPutColumn.put_column.Goa
 
 pub put_column-out-requires : goal.put_column-out-requires
 put_column-out-requires g c = record {
-  column = HoldsColumn-some c.args.rows _ _ _ _ _ _ (c.loop-group.group * COLUMN_ITEMS) COLUMN_ITEMS (omega arith) c.loop-group.invariant.put.same_length c.requires.column;
+  column = HoldsColumn-some c.args.rows _ _ _ _ _ _ (c.loop-group.group * COLUMN_ITEMS) COLUMN_ITEMS (omega (arith, c.loop-group-test.true)) c.loop-group.invariant.put.same_length c.requires.column;
 }
 
 pub loop-group-preserved : goal.loop-group-preserved
@@ -24,7 +24,7 @@ put_column-out-requires-then-done-rows g c = record {
 
 pub returns-then-done-rows-clause-put : goal.returns-then-done-rows-clause-put
 returns-then-done-rows-clause-put g c =
-    let all : c.loop-group.group ≡ c.args.rows / COLUMN_ITEMS = omega arith in
+    let all : c.loop-group.group ≡ c.args.rows / COLUMN_ITEMS = omega (arith, c.loop-group-test.false, c.loop-group.auto.group-end) in
     let whole : c.args.rows / COLUMN_ITEMS * COLUMN_ITEMS + (c.args.rows - c.args.rows / COLUMN_ITEMS * COLUMN_ITEMS) ≡ c.args.rows = omega arith in
     rw whole at
     (IsColumnPut-more _ _ (c.args.rows / COLUMN_ITEMS * COLUMN_ITEMS) _ _ _ _ _ _ (rw all at c.loop-group.invariant.put) c.put_column-out-then-done-rows.ensures.put)
