@@ -1,6 +1,7 @@
 pub mod BlockPut
 pub mod Columns
 pub mod Crossing
+pub mod Diagonal
 pub mod Digits
 pub mod Exchanged
 pub mod Grid

@@ -22,15 +22,16 @@ ghost use Rattle.p3_util_kernels.specs.Steps.{counted};
 ghost use Rattle.p3_util_kernels.specs.SwapCounts.{long_swaps, reversal_swaps, row_swaps, short_swaps};
 
 // `rows` has the short path, which is that of rows of any width, and `long` has the long path. The
-// module `grid` makes the exchanges of both.
+// module `short` makes the swaps of rows; `rows` has a kernel for the crates beside this one.
 mod long;
 pub(crate) mod rows;
+pub(crate) mod short;
 
-use crate::places::bulk::Tiled;
+use crate::bits::{log2_strict_usize, pow2};
 use crate::places::{Places, SlicePlaces, Swaps};
-use long::reverse_long;
-use rows::reverse_chunks;
+use long::transpose_squares_on;
 pub(crate) use rows::{RowDigits, reverse_rows, reverse_short};
+use short::swap_rows;
 
 /// A call that counts its swaps takes the short path for at most this many items, and the long path
 /// for more.
@@ -66,7 +67,7 @@ pub fn reverse_slice_index_bits<F>(vals: &mut [F])
     ensures at { (k i : ℕ) → length vals.old ≡ 2 ^ k → i < 2 ^ k
         → slice_get vals.new i ≡ slice_get vals.old (rev k i) }
 {
-    let _ = reverse_items(vals);
+    on_fresh_counter(&mut SlicePlaces::new(vals));
 }
 
 /// Reverses the order of the rows of `vals` by index bits, and does not check the length: the rows
@@ -82,7 +83,7 @@ pub fn reverse_slice_row_index_bits<F>(vals: &mut [F], row_width: usize)
     ensures at { (k r j : ℕ) → length vals.old ≡ row_width * 2 ^ k → r < 2 ^ k → j < row_width
         → slice_get vals.new (r * row_width + j) ≡ slice_get vals.old (rev k r * row_width + j) }
 {
-    let _ = reverse_rows_of_items(vals, row_width);
+    rows_on_fresh_counter(&mut SlicePlaces::new(vals), row_width);
 }
 
 /// Reverses `m` by index bits, as [`reverse_slice_index_bits`] does: by the short path up to 8192
@@ -101,7 +102,11 @@ pub fn reverse_index_bits_on<S: Places>(m: &mut Swaps<S>)
     ensures holder { S.same_holder (reversal_swaps (length (S.items m.old.holder)))
         m.old.holder m.new.holder }
 {
-    m.count = reverse_index_bits(Swaps::resumed(&mut m.holder, m.count)).swaps();
+    if m.len() <= SHORT_PATH_ITEMS {
+        reverse_index_bits_short(m);
+    } else {
+        reverse_index_bits_long(m);
+    }
 }
 
 /// Reverses `m` by index bits, as [`reverse_slice_index_bits`] does.
@@ -119,7 +124,7 @@ pub fn reverse_index_bits_short<S: Places>(m: &mut Swaps<S>)
     ensures holder { S.same_holder (short_swaps (clog (length (S.items m.old.holder))))
         m.old.holder m.new.holder }
 {
-    m.count = reverse_short(Swaps::resumed(&mut m.holder, m.count)).swaps();
+    reverse_row_index_bits_on(m, 1);
 }
 
 /// Reverses `m` by index bits, as [`reverse_slice_index_bits`] does, in three passes over chunks and
@@ -140,7 +145,11 @@ pub fn reverse_index_bits_long<S: Places>(m: &mut Swaps<S>)
     ensures holder { S.same_holder (long_swaps (clog (length (S.items m.old.holder))))
         m.old.holder m.new.holder }
 {
-    m.count = reverse_long(Swaps::resumed(&mut m.holder, m.count)).swaps();
+    let digits = log2_strict_usize(m.len());
+    let half = digits / 2;
+    reverse_chunks_on(m, half, digits - half);
+    transpose_squares_on(m, digits - half, half);
+    reverse_chunks_on(m, half, digits - half);
 }
 
 /// Reverses the order of the rows of `m` by index bits.
@@ -160,8 +169,11 @@ pub fn reverse_row_index_bits_on<S: Places>(m: &mut Swaps<S>, row_width: usize)
     ensures holder { S.same_holder (row_swaps (length (S.items m.old.holder)) row_width)
         m.old.holder m.new.holder }
 {
-    let rows = RowDigits::of(m.len(), row_width);
-    m.count = reverse_rows(Swaps::resumed(&mut m.holder, m.count), rows).swaps();
+    let len = m.len();
+    if len == 0 {
+        return;
+    }
+    swap_rows(m, row_width, log2_strict_usize(len / row_width));
 }
 
 /// Reverses the order of chunks by index bits.
@@ -182,46 +194,28 @@ pub fn reverse_chunks_on<S: Places>(m: &mut Swaps<S>, lb_num_chunks: usize, lb_c
     ensures holder { S.same_holder (short_swaps lb_num_chunks * 2 ^ lb_chunk_size)
         m.old.holder m.new.holder }
 {
-    let counter = Swaps::resumed(&mut m.holder, m.count);
-    m.count = reverse_chunks(counter, lb_num_chunks, lb_chunk_size).swaps();
+    let _len = m.len();
+    reverse_row_index_bits_on(m, pow2(lb_chunk_size));
 }
 
-/// Runs the kernel on a holder of the slice and returns the slice. The kernel takes the holder by
-/// value. After that, a proof knows nothing about the slice that the holder borrowed. So the
-/// contract is about the slice that is returned, and says by `ghost_name` that this is the slice
-/// `vals`.
-#[inline(always)]
-fn reverse_items<F>(vals: &mut [F]) -> &mut [F]
-    requires { IsReversible (length vals.old) }
-    ensures order { IsReversal vals.old result.now }
-    ensures slice { result.ghost_name ≡ vals.entry.ghost_name }
+/// Reverses the items of a holder by index bits, by a counter that starts at 0.
+fn on_fresh_counter<S: Places>(places: &mut S)
+    requires { IsReversible (length (S.items places.old)) }
+    ensures order { IsReversal (S.items places.old) (S.items places.new) }
+    ensures holder { S.same_holder (reversal_swaps (length (S.items places.old)))
+        places.old places.new }
 {
-    let SlicePlaces { items } = reverse_short(SlicePlaces::new(vals));
-    items
+    let mut m = Swaps::new(places);
+    reverse_index_bits_on(&mut m);
 }
 
-/// Does the same as [`reverse_items`], for rows.
-#[inline(always)]
-fn reverse_rows_of_items<F>(vals: &mut [F], row_width: usize) -> &mut [F]
-    requires { FitsRows (length vals.old) row_width }
-    ensures order { IsRowReversal row_width vals.old result.now }
-    ensures slice { result.ghost_name ≡ vals.entry.ghost_name }
+/// Reverses the rows of a holder by index bits, by a counter that starts at 0.
+fn rows_on_fresh_counter<S: Places>(places: &mut S, row_width: usize)
+    requires { FitsRows (length (S.items places.old)) row_width }
+    ensures order { IsRowReversal row_width (S.items places.old) (S.items places.new) }
+    ensures holder { S.same_holder (row_swaps (length (S.items places.old)) row_width)
+        places.old places.new }
 {
-    let rows = RowDigits::of(vals.len(), row_width);
-    let SlicePlaces { items } = reverse_rows(SlicePlaces::new(vals), rows);
-    items
-}
-
-/// The kernel of [`reverse_index_bits_on`].
-#[inline(always)]
-pub(crate) fn reverse_index_bits<M: Tiled>(m: M) -> M
-    requires { IsReversible (length (M.items m)) }
-    ensures order { IsReversal (M.items m) (M.items result) }
-    ensures holder { M.same_holder (reversal_swaps (length (M.items m))) m result }
-{
-    if m.len() <= SHORT_PATH_ITEMS {
-        reverse_short(m)
-    } else {
-        reverse_long(m)
-    }
+    let mut m = Swaps::new(places);
+    reverse_row_index_bits_on(&mut m, row_width);
 }

@@ -44,7 +44,6 @@ pub use counted::{
 pub(crate) use order::{Order, TINY_MATRIX};
 pub(crate) use regions::Matrix;
 pub use regions::Region;
-pub(crate) use square::transpose_square;
 pub(crate) use strips::Strips;
 pub(crate) use ways::{Columns, PutRegion};
 

@@ -14,8 +14,8 @@ use crate::places::{Cells, Places, len_fits};
 /// A counter around a holder of places. It counts exchanges. The count stops at `u128::MAX`.
 #[derive(Debug, Drop)]
 pub struct Swaps<S> {
-    pub(crate) holder: S,
-    pub(crate) count: u128,
+    holder: S,
+    count: u128,
     pub ghost count_fits: { count < 2 ^ 128 },
 }
 
@@ -26,18 +26,8 @@ impl<S: Places> Swaps<S> {
         ensures count { result.count ≡ 0 }
         ensures len_fits { length (S.items holder) < 2 ^ 64 }
     {
-        Swaps::resumed(holder, 0)
-    }
-
-    /// A counter around `holder` that starts at `count`.
-    #[inline(always)]
-    pub(crate) fn resumed(holder: S, count: u128) -> Self
-        ensures holder { result.holder ≡ holder }
-        ensures count { result.count ≡ count }
-        ensures len_fits { length (S.items holder) < 2 ^ 64 }
-    {
         len_fits(holder.len());
-        Swaps { holder, count }
+        Swaps { holder, count: 0 }
     }
 
     /// The number of places.

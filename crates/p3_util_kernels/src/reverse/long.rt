@@ -11,48 +11,31 @@
 //! those of the column.
 
 ghost use Rattle.std.specs.Prelude.{◌≡◌, ℕ, ◌+◌, ◌-◌, ◌*◌, ◌/◌, ◌^◌, ◌<◌, ◌≤◌, length};
-ghost use Rattle.p3_util_kernels.specs.Logarithms.{clog};
-ghost use Rattle.p3_util_kernels.specs.Reversal.{IsReversal, IsReversible};
-ghost use Rattle.p3_util_kernels.specs.SwapCounts.{long_swaps, square_swaps};
+ghost use Rattle.p3_util_kernels.specs.Steps.{counted};
+ghost use Rattle.p3_util_kernels.specs.SwapCounts.{square_swaps};
 ghost use Rattle.p3_util_kernels.specs.SideBySide.{AreTransposed};
 
-use crate::bits::{log2_strict_usize, pow2};
-use crate::places::bulk::Tiled;
-use crate::reverse::rows::reverse_chunks;
-use crate::transpose::transpose_square;
-
-/// The kernel of [`reverse_index_bits_long`](crate::reverse::reverse_index_bits_long).
-#[inline(never)]
-pub(crate) fn reverse_long<M: Tiled>(m: M) -> M
-    requires fits { IsReversible (length (M.items m)) }
-    requires not_short { 4 ≤ length (M.items m) }
-    ensures order { IsReversal (M.items m) (M.items result) }
-    ensures holder { M.same_holder (long_swaps (clog (length (M.items m)))) m result }
-{
-    let digits = log2_strict_usize(m.len());
-    let half = digits / 2;
-    let m = reverse_chunks(m, half, digits - half);
-    let m = transpose_squares(m, digits - half, half);
-    reverse_chunks(m, half, digits - half)
-}
+use crate::bits::pow2;
+use crate::places::{Places, Swaps};
+use crate::transpose::transpose_square_on;
 
 /// Transposes each of the squares that lie side by side in `m`. The list is `2^log_size` rows of
 /// `2^log_stride` items, and each square has `2^log_size` rows and columns. A list of n items takes
-/// at most n/2 exchanges.
-fn transpose_squares<M: Tiled>(m: M, log_stride: usize, log_size: usize) -> M
+/// at most n/2 swaps.
+pub(crate) fn transpose_squares_on<S: Places>(m: &mut Swaps<S>, log_stride: usize, log_size: usize)
     requires within { log_size ≤ log_stride }
-    requires whole { length (M.items m) ≡ 2 ^ (log_size + log_stride) }
-    requires len_fits { length (M.items m) < 2 ^ 64 }
-    ensures transposed { AreTransposed (2 ^ (log_stride - log_size)) log_stride log_size (M.items m)
-        (M.items result) }
-    ensures holder { M.same_holder (2 ^ (log_stride - log_size) * square_swaps
-        (2 ^ log_size)) m result }
+    requires whole { length (S.items m.old.holder) ≡ 2 ^ (log_size + log_stride) }
+    requires len_fits { length (S.items m.old.holder) < 2 ^ 64 }
+    requires count_fits { m.old.count < 2 ^ 128 }
+    ensures transposed { AreTransposed (2 ^ (log_stride - log_size)) log_stride log_size
+        (S.items m.old.holder) (S.items m.new.holder) }
+    ensures count { m.new.count ≡ counted m.old.count
+        (2 ^ (log_stride - log_size) * square_swaps (2 ^ log_size)) }
+    ensures holder { S.same_holder (2 ^ (log_stride - log_size) * square_swaps (2 ^ log_size))
+        m.old.holder m.new.holder }
 {
     let side = pow2(log_size);
-    let squares = pow2(log_stride - log_size);
-    let mut m = m;
-    for square in 0..squares {
-        m = transpose_square(m, square * side, log_stride, log_size);
+    for square in 0..pow2(log_stride - log_size) {
+        transpose_square_on(m, square * side, log_stride, log_size);
     }
-    m
 }

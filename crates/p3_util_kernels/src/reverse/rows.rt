@@ -54,20 +54,6 @@ impl RowDigits {
         RowDigits { width, digits }
     }
 
-    /// The rows of a list of `2^lb_num_chunks` chunks of `2^lb_chunk_size` items. Each chunk is a
-    /// row.
-    #[inline(always)]
-    pub(crate) fn chunks(lb_num_chunks: usize, lb_chunk_size: usize) -> Self
-        requires { lb_chunk_size < 64 }
-        ensures width { result.width ≡ 2 ^ lb_chunk_size }
-        ensures digits { result.digits ≡ lb_num_chunks }
-    {
-        RowDigits {
-            width: pow2(lb_chunk_size),
-            digits: lb_num_chunks,
-        }
-    }
-
     /// The grid of the rows whose indices have the middle part `middle`.
     #[inline(always)]
     #[doc(hidden)]
@@ -98,17 +84,6 @@ pub fn reverse_short<M: Tiled>(m: M) -> M
 {
     let rows = RowDigits::of(m.len(), 1);
     reverse_rows(m, rows)
-}
-
-/// The kernel of [`reverse_chunks_on`](crate::reverse::reverse_chunks_on).
-#[inline(always)]
-pub(crate) fn reverse_chunks<M: Tiled>(m: M, lb_num_chunks: usize, lb_chunk_size: usize) -> M
-    requires whole { length (M.items m) ≡ 2 ^ (lb_num_chunks + lb_chunk_size) }
-    requires len_fits { length (M.items m) < 2 ^ 64 }
-    ensures order { IsRowReversal (2 ^ lb_chunk_size) (M.items m) (M.items result) }
-    ensures holder { M.same_holder (short_swaps lb_num_chunks * 2 ^ lb_chunk_size) m result }
-{
-    reverse_rows(m, RowDigits::chunks(lb_num_chunks, lb_chunk_size))
 }
 
 /// The kernel of [`reverse_row_index_bits_on`](crate::reverse::reverse_row_index_bits_on).

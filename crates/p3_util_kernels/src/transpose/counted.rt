@@ -12,7 +12,7 @@ use crate::places::bulk::Ahead;
 use crate::places::{Cells, Places, SliceSource, Source, Swaps, Writes};
 use crate::transpose::regions::{Matrix, Region};
 use crate::transpose::split::put_split;
-use crate::transpose::square::transpose_square;
+use crate::transpose::square::transpose_part;
 use crate::transpose::strips::Strips;
 use crate::transpose::{put_region, transpose_by_shape};
 
@@ -199,8 +199,8 @@ pub fn transpose_square_on<S: Places>(
     ensures holder { let s = 2 ^ log_size in S.same_holder (s * (s - 1) / 2)
         m.old.holder m.new.holder }
 {
-    let counter = Swaps::resumed(&mut m.holder, m.count);
-    m.count = transpose_square(counter, base, log_stride, log_size).swaps();
+    let _len = m.len();
+    transpose_part(m, base, pow2(log_stride), 0, pow2(log_size));
 }
 
 /// Splits and puts `region`, with a counter that starts at `count`. Returns the holder inside the

@@ -3,7 +3,7 @@ use Rattle.std.proofs.lemmas.Nat.{pow-add, pow_pos, shl-shr}
 use Rattle.p3_util_kernels.specs.Digits.{rev}
 use Rattle.p3_util_kernels.proofs.BitsLemmas.Digits.{rev-shl, rev_word-above}
 use Rattle.p3_util_kernels.proofs.BitsLemmas.Tables.{reversed_six}
-use Rattle.p3_util_kernels.specs.declared.grid.TheConstants.{REVERSED_SIX}
+use Rattle.p3_util_kernels.specs.declared.reverse.short.TheConstants.{REVERSED_SIX}
 use Rattle.p3_util_kernels.proofs.grid.reverse_digits.Goals as goal
 
 -- 64 shifted to the right by at most 6 digits

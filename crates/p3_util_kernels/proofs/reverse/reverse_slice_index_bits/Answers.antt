@@ -4,4 +4,4 @@ use Rattle.p3_util_kernels.proofs.ReverseLemmas.Reversal.{row_reversed_back}
 use Rattle.p3_util_kernels.proofs.reverse.reverse_slice_index_bits.Goals as goal
 
 pub returns-clause-inverse : goal.returns-clause-inverse
-returns-clause-inverse g c = let inverse = row_reversed_back _ _ _ c.reverse_items.ensures.order in search (rules, inverse)
+returns-clause-inverse g c = let inverse = row_reversed_back _ _ _ c.on_fresh_counter.ensures.order in search (rules, inverse)
