@@ -6,3 +6,4 @@ pub mod Levels
 pub mod Matrix
 pub mod Region
 pub mod Stages
+pub mod Tiles

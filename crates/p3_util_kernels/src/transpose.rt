@@ -32,10 +32,12 @@ pub(crate) mod regions;
 mod split;
 mod square;
 pub(crate) mod strips;
+pub(crate) mod tile;
+pub(crate) mod tiled;
 pub(crate) mod ways;
 
 use crate::places::bulk::{Ahead, Blocked};
-use crate::places::{SliceCells, SliceSource};
+use crate::places::{Cells, SliceCells, SliceSource, Source, Writes};
 pub use butterfly::{butterfly_4x4, butterfly_stage1, butterfly_stage2};
 pub use counted::{
     fits_square, transpose_on, transpose_region_on, transpose_source_on, transpose_source_split_on,
@@ -78,7 +80,27 @@ pub fn transpose<T: Copy>(input: &[T], output: &mut [T], width: usize, height: u
     ensures order { IsTranspose width height input.now output.new }
     ensures inverse { IsTranspose height width output.new input.now }
 {
-    let _ = transpose_items(Matrix::new(SliceSource::new(input), width, height), output);
+    transpose_cells(
+        &SliceSource::new(input),
+        &mut SliceCells::new(output),
+        width,
+        height,
+    );
+}
+
+/// Transposes a source into any cells. The caller makes the holder, so it knows what is in the slice
+/// afterwards.
+fn transpose_cells<R, C>(input: &R, cells: &mut C, width: usize, height: usize)
+where
+    C: Cells,
+    R: Source<Item = C::Item>,
+    requires input_fits { length (R.items input.now) ≡ width * height }
+    requires output_fits { length (C.items cells.old) ≡ width * height }
+    ensures order { IsTranspose width height (R.items input.now) (C.items cells.new) }
+    ensures holder { C.same_holder (width * height) cells.old cells.new }
+{
+    let mut out = Writes::new(cells);
+    transpose_source_on(input, &mut out, width, height);
 }
 
 /// The kernel of [`transpose_region_on`]. It says by the bounds of the region, too, which

@@ -8,13 +8,18 @@ ghost use Rattle.p3_util_kernels.specs.Steps.{counted};
 ghost use Rattle.p3_util_kernels.specs.Transpose.{IsTranspose};
 
 use crate::bits::pow2;
-use crate::places::bulk::Ahead;
-use crate::places::{Cells, Places, SliceSource, Source, Swaps, Writes};
+use crate::places::{Cells, Places, SliceSource, Source, Swaps, Writes, len_fits};
+use crate::transpose::ENOUGH_LEVELS;
 use crate::transpose::regions::{Matrix, Region};
-use crate::transpose::split::put_split;
+use crate::transpose::split::{cut_in_half, is_leaf};
 use crate::transpose::square::transpose_part;
-use crate::transpose::strips::Strips;
-use crate::transpose::{put_region, transpose_by_shape};
+use crate::transpose::tiled::{put_by_tiles, put_plain};
+
+/// The greatest number of items of a matrix that is copied plainly.
+const SCALAR_ITEMS: usize = 255;
+
+/// The greatest number of items of a matrix that is put as one region.
+const REGION_ITEMS: usize = 1_048_576;
 
 /// Writes the transpose of `input` to `out`, as [`transpose`](crate::transpose::transpose) does, in
 /// exactly `width * height` writes.
@@ -47,9 +52,8 @@ where
     ensures count { out.new.count ≡ counted out.old.count (width * height) }
     ensures holder { C.same_holder (width * height) out.old.holder out.new.holder }
 {
-    let matrix = Matrix::new(input, width, height);
-    let counter = Writes::resumed(&mut out.holder, out.count);
-    out.count = transpose_by_shape(counter, matrix).writes();
+    let whole = Matrix::new(input, width, height).whole();
+    put_whole(input, out, whole, width, height);
 }
 
 /// Writes the transpose of `region` to `out`, with one write for each item.
@@ -83,9 +87,7 @@ pub fn transpose_region_on<C: Cells>(
     ensures count { out.new.count ≡ counted out.old.count (items_of region) }
     ensures holder { C.same_holder (items_of region) out.old.holder out.new.holder }
 {
-    let matrix = Matrix::new(SliceSource::new(input), width, height);
-    let counter = Writes::resumed(&mut out.holder, out.count);
-    out.count = put_region(counter, matrix, region).writes();
+    put_by_tiles(&SliceSource::new(input), out, region, width, height, false);
 }
 
 /// Writes the transpose of `region` to `out`, as
@@ -145,10 +147,15 @@ where
     ensures bound { result ≤ 57 }
     ensures holder { C.same_holder (items_of region) out.old.holder out.new.holder }
 {
-    let matrix = Matrix::new(input, width, height);
-    let (_, count, nested) = put_split_resumed(&mut out.holder, out.count, matrix, region, levels);
-    out.count = count;
-    nested
+    len_fits(input.len());
+    if is_leaf(region) {
+        put_by_tiles(input, out, region, width, height, true);
+        return 0;
+    }
+    let (first, second) = cut_in_half(region);
+    let nested = transpose_source_split_on(input, out, first, width, height, levels - 1);
+    let nested_after = transpose_source_split_on(input, out, second, width, height, levels - 1);
+    1 + nested.max(nested_after)
 }
 
 /// Whether a list of `len` items holds a square of `s = 2^log_size` rows and columns.
@@ -203,29 +210,25 @@ pub fn transpose_square_on<S: Places>(
     transpose_part(m, base, pow2(log_stride), 0, pow2(log_size));
 }
 
-/// Splits and puts `region`, with a counter that starts at `count`. Returns the holder inside the
-/// counter, the new count, and how deep the splits nest.
-fn put_split_resumed<C: Cells, R: Ahead<Item = C::Item> + Copy>(
-    cells: C,
-    count: u128,
-    matrix: Matrix<R>,
-    region: Region,
-    levels: u32,
-) -> (C, u128, u32)
-    requires input_fits { length (R.items matrix.source) ≡ matrix.width * matrix.height }
-    requires output_fits { length (C.items cells) ≡ matrix.width * matrix.height }
-    requires inside { LiesInMatrix region matrix.width matrix.height }
-    requires enough { lev (rows_of region) (cols_of region) ≤ levels }
-    ensures transposed { IsRegionTransposed region matrix.width matrix.height
-        (R.items matrix.source)
-        (C.items cells) (C.items result.0) }
-    ensures count { result.1 ≡ counted count (items_of region) }
-    ensures holder { C.same_holder (items_of region) cells result.0 }
-    ensures nested { result.2 ≡ nest (rows_of region) (cols_of region) }
-    ensures bound { result.2 ≤ 57 }
+/// Writes the transpose of a region that is a whole matrix, by the path for its number of items.
+fn put_whole<R, C>(input: &R, out: &mut Writes<C>, whole: Region, width: usize, height: usize)
+where
+    C: Cells,
+    R: Source<Item = C::Item>,
+    requires input_fits { length (R.items input.now) ≡ width * height }
+    requires output_fits { length (C.items out.old.holder) ≡ width * height }
+    requires inside { LiesInMatrix whole width height }
+    ensures transposed { IsRegionTransposed whole width height (R.items input.now)
+        (C.items out.old.holder) (C.items out.new.holder) }
+    ensures count { out.new.count ≡ counted out.old.count (items_of whole) }
+    ensures holder { C.same_holder (items_of whole) out.old.holder out.new.holder }
 {
-    let counter = Writes::resumed(cells, count);
-    let (done, nested) = put_split(counter, matrix, region, levels, Strips::by_shape(matrix));
-    let count = done.writes();
-    (done.into_inner(), count, nested)
+    let items = input.len();
+    if items <= SCALAR_ITEMS {
+        put_plain(input, out, whole, width, height);
+    } else if items <= REGION_ITEMS {
+        put_by_tiles(input, out, whole, width, height, false);
+    } else {
+        let _ = transpose_source_split_on(input, out, whole, width, height, ENOUGH_LEVELS);
+    }
 }

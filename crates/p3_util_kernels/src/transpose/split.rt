@@ -49,7 +49,7 @@ pub(crate) fn put_split<M: Blocked, R: Ahead<Item = M::Item> + Copy, W: PutRegio
 
 /// Whether `region` is put without a split.
 #[tactic(auto, using(crate::proofs::TransposeLemmas::Levels::leaves))]
-fn is_leaf(region: Region) -> bool
+pub(crate) fn is_leaf(region: Region) -> bool
     requires rows_in_order { region.row_start ≤ region.row_end }
     requires cols_in_order { region.col_start ≤ region.col_end }
     ensures { let rows = rows_of region in let cols = cols_of region in
@@ -62,7 +62,7 @@ fn is_leaf(region: Region) -> bool
 
 /// Halves the longer side of `region`. If both sides are equal, the rows are halved.
 #[tactic(auto, using(crate::proofs::TransposeLemmas::Halves::halved))]
-fn cut_in_half(region: Region) -> (Region, Region)
+pub(crate) fn cut_in_half(region: Region) -> (Region, Region)
     requires rows_in_order { region.row_start ≤ region.row_end }
     requires cols_in_order { region.col_start ≤ region.col_end }
     requires large { let rows = rows_of region in let cols = cols_of region in

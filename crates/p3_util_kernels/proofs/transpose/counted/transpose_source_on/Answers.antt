@@ -1,5 +1,0 @@
-use Rattle.std.proofs.Common.{rules}
-use Rattle.p3_util_kernels.proofs.transpose.counted.transpose_source_on.Goals as goal
-
-pub returns-clause-holder : goal.returns-clause-holder
-returns-clause-holder g c = search rules
