@@ -156,7 +156,7 @@ def check_functions():
     """Each public function is in a test of p3_util_vectors or of the package. If it promises anything, MODEL has it, or the
     type that it is a method of. If it has a precondition, a proved caller or a test in Rattle has it."""
     tests = words(r"crates/p3_util_vectors/src/|rust/(tests|src/.*tests)|tests/unproved/")
-    callers, model = words(r"crates/p3_util_(callers|vectors)/src/"), words(r"docs/MODEL\.md")
+    callers, model = words(r"crates/p3_util_(examples|vectors)/src/"), words(r"docs/MODEL\.md")
     for path, owner, function in public_functions():
         kinds, name = {title.split(" ")[0] for title, _ in function.clauses}, function.name()
         if name not in tests:

@@ -24,7 +24,7 @@ if [[ ${1-} = --refused ]]; then
     exit
 fi
 
-below='p3_util_callers p3_util_kernels p3_util p3_util_vectors'
+below='p3_util_examples p3_util_kernels p3_util p3_util_vectors'
 for crate in $below p3_util_run; do
     mkdir -p "$copy/crates/$crate"
     cp -a "crates/$crate/src" "$copy/crates/$crate/"

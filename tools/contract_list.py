@@ -12,7 +12,7 @@ from rattle_source import declarations, read
 HEAD = """\
 # The public contracts of the crates on which code may rely, and the names of the definitions. docs/CALLING.md explains how to
 # read a contract, and docs/MODEL.md says in words what is promised. Crates of examples and tests are not listed, nor is what
-# only the crates of this repository see, such as all of p3_util_registers and p3_util_calls.
+# only the crates of this repository see, such as all of p3_util_dispatch.
 #
 # Below the name of a source are its contracts. All structs are listed, with their private fields, since a clause or a
 # definition may name them. The lines below an implementation of a trait say what a clause sees of that type.
@@ -21,7 +21,7 @@ HEAD = """\
 # The contracts of a crate are followed by the files of its definitions, each with the names that it defines. The file has the
 # definitions, each with a comment that says the same in words. Below these are the crate's imports: the modules that the
 # names in its contracts come from. Your crate can import the same names, by `ghost use`."""
-CRATES = ["p3_util_kernels", "p3_util", "p3_util_run", "p3_util_c"]
+CRATES = ["p3_util_kernels", "p3_util_fast", "p3_util", "p3_util_run", "p3_util_c"]
 # The rows of marks and names of std that are too rare for docs/CALLING.md.
 MARKS = "tools/marks.txt"
 IMPORT = re.compile(r"^ *(?:ghost )?use ([\w.-]+)\.\{([^}]*)\};?(?: *--.*)?\n", re.M)

@@ -9,7 +9,8 @@ ghost use Rattle.std.specs.Bool.{OnTrue, OnFalse};
 ghost use Rattle.p3_util_kernels.specs.Reversal.{IsReversal, IsZeroOrPowerOfTwo};
 ghost use Rattle.p3_util_c.specs.Tried.{IsTriedReversal};
 
-use p3_util_kernels::reverse::{fits_rows, reverse_slice_index_bits};
+use p3_util_fast::reverse_slice_index_bits;
+use p3_util_kernels::reverse::fits_rows;
 
 #[unsafe(no_mangle)]
 pub extern "C" fn p3_util_reverse_1(vals: &mut [u8]) -> bool

@@ -9,7 +9,8 @@ ghost use Rattle.std.specs.Bool.{OnTrue, OnFalse};
 ghost use Rattle.p3_util_kernels.specs.Reversal.{FitsRows, IsRowReversal};
 ghost use Rattle.p3_util_c.specs.Tried.{IsTriedRowReversal};
 
-use p3_util_kernels::reverse::{fits_rows, reverse_slice_row_index_bits};
+use p3_util_fast::reverse_slice_row_index_bits;
+use p3_util_kernels::reverse::fits_rows;
 
 #[unsafe(no_mangle)]
 pub extern "C" fn p3_util_reverse_rows_1(vals: &mut [u8], row_width: usize) -> bool

@@ -9,7 +9,8 @@ ghost use Rattle.std.specs.Bool.{OnTrue, OnFalse};
 ghost use Rattle.p3_util_kernels.specs.Transpose.{IsTranspose};
 ghost use Rattle.p3_util_c.specs.Tried.{IsTriedTranspose};
 
-use p3_util_kernels::transpose::{fits_matrix, transpose};
+use p3_util_fast::transpose;
+use p3_util_kernels::transpose::fits_matrix;
 
 #[unsafe(no_mangle)]
 pub extern "C" fn p3_util_transpose_1(

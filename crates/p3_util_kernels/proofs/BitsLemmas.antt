@@ -4,6 +4,7 @@ pub mod Groups
 pub mod HasLogs
 pub mod Logarithms
 pub mod Names
+pub mod Pairs
 pub mod Powers
 pub mod Sums
 pub mod Tables

@@ -1,10 +1,8 @@
 -- Lemmas on reversals, of both paths, and their numbers of swaps.
 pub mod Below
-pub mod Crossing
 pub mod Halfway
 pub mod Lengths
 pub mod LongPath
 pub mod Reversal
 pub mod SideBySide
-pub mod SquareCounts
 pub mod SwapCounts

@@ -1,6 +1,5 @@
 -- Lemmas on transposes, of whole matrices and of regions.
 pub mod Diagonal
-pub mod Columns
 pub mod Halves
 pub mod Levels
 pub mod Matrix

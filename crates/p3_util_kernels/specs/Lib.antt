@@ -1,15 +1,10 @@
-pub mod BlockPut
-pub mod Columns
-pub mod Crossing
 pub mod Diagonal
 pub mod Digits
 pub mod Exchanged
-pub mod Grid
 pub mod Halves
 pub mod Least
 pub mod Levels
 pub mod Logarithms
-pub mod Mirrored
 pub mod Names
 pub mod Powers
 pub mod Region

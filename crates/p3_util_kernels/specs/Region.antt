@@ -1,6 +1,6 @@
 -- A region of a matrix, transposed into an output that has room for the transpose of the whole matrix. Source: new.
 use Rattle.std.specs.Prelude.{ℕ, ◌≡◌, ◌≢◌, ◌+◌, ◌-◌, ◌*◌, ◌^◌, ◌<◌, ◌≤◌, List, length, slice_get}
-use Rattle.p3_util_kernels.specs.declared.transpose.regions.Region.{Region}
+use Rattle.p3_util_kernels.specs.declared.transpose.region.Region.{Region}
 
 -- row y and column x belong to the region
 pub record IsInRegion (region : Region) (x y : ℕ) : Type 0 where

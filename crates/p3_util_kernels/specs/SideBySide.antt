@@ -1,5 +1,5 @@
 -- Squares that lie side by side in a list, the first of which are transposed. This definition serves the private
--- contract of `transpose_squares` on the long path, and callers that build such a path from public calls.
+-- contract of `transpose_squares_on` on the long path, and callers that build such a path from public calls.
 use Rattle.std.specs.Prelude.{ℕ, ◌≡◌, ◌+◌, ◌-◌, ◌*◌, ◌^◌, ◌<◌, ◌≤◌, List, length, slice_get}
 
 -- The list has `2 ^ log_size` rows of `2 ^ log_stride` items, so squares of `2 ^ log_size` rows lie

@@ -4,9 +4,6 @@
 #![tactic(auto)]
 
 pub mod bits;
-pub(crate) mod grid;
-#[doc(hidden)]
-pub mod kernel;
 pub mod laws;
 pub mod places;
 pub mod reverse;

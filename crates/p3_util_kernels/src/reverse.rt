@@ -4,15 +4,15 @@
 //! The rows of a list can be reordered in the same way, by the index of each row. The items within
 //! a row then keep their order.
 //!
-//! A call exchanges each pair of items, or of rows, whose indices are each other's reverse. For
-//! single items this is the *short path*. A call that counts its swaps takes the short path for up
-//! to 8192 items, and the long one for more. The *long path* makes three passes and more swaps. Its
-//! number of swaps is part of the contracts of these calls. A call on a slice takes the short path
-//! at every length.
+//! There are two paths. The *short path* swaps each pair of items, or of rows, whose indices are
+//! each other's reverse. The *long path* makes three passes over chunks and squares, and more swaps.
+//! Rows are always reversed by the short path. A list of single items takes the short path for up
+//! to 8192 items, and the long path for more. A call on a slice is the call whose name ends in
+//! `_on`, over a counter that starts at 0.
 //!
 //! It is proved that each call leaves the list in bit-reversed order (`IsReversal`,
-//! `IsRowReversal`). For the calls that count, the exact number of swaps is proved too. The order
-//! of the swaps is only tested. Which path a call on a slice takes can be seen only in its speed.
+//! `IsRowReversal`). For the calls that are given a counter, the exact number of swaps is proved
+//! too. The order of the swaps is only tested.
 
 ghost use Rattle.std.specs.Prelude.{◌≡◌, ℕ, ◌+◌, ◌*◌, ◌/◌, ◌^◌, ◌↔◌, ◌<◌, ◌≤◌, IsTrue, length, slice_get};
 ghost use Rattle.p3_util_kernels.specs.Reversal.{FitsRows, IsReversal, IsReversible, IsRowReversal, IsZeroOrPowerOfTwo};
@@ -21,20 +21,17 @@ ghost use Rattle.p3_util_kernels.specs.Logarithms.{clog};
 ghost use Rattle.p3_util_kernels.specs.Steps.{counted};
 ghost use Rattle.p3_util_kernels.specs.SwapCounts.{long_swaps, reversal_swaps, row_swaps, short_swaps};
 
-// `rows` has the short path, which is that of rows of any width, and `long` has the long path. The
-// module `short` makes the swaps of rows; `rows` has a kernel for the crates beside this one.
 mod long;
-pub(crate) mod rows;
-pub(crate) mod short;
+mod rows;
 
 use crate::bits::{log2_strict_usize, pow2};
 use crate::places::{Places, SlicePlaces, Swaps};
 use long::transpose_squares_on;
-pub(crate) use rows::{RowDigits, reverse_rows, reverse_short};
-use short::swap_rows;
+#[doc(hidden)]
+pub use rows::REVERSED_SIX;
+use rows::swap_rows;
 
-/// A call that counts its swaps takes the short path for at most this many items, and the long path
-/// for more.
+/// A list of at most this many items takes the short path, and a longer one the long path.
 const SHORT_PATH_ITEMS: usize = 8192;
 
 /// Whether `len` items can be cut into rows of `row_width` items so that the number of rows is zero
@@ -130,9 +127,8 @@ pub fn reverse_index_bits_short<S: Places>(m: &mut Swaps<S>)
 /// Reverses `m` by index bits, as [`reverse_slice_index_bits`] does, in three passes over chunks and
 /// squares.
 ///
-/// A list of n items takes at most 3n/2 swaps. [`reverse_index_bits_short`] takes at most n/2, but
-/// the order of the swaps here suits lists that do not fit in a cache. The length must be at least
-/// 4, and a power of two, which std's `is_power_of_two` checks.
+/// A list of n items takes at most 3n/2 swaps, while [`reverse_index_bits_short`] takes at most n/2.
+/// The length must be at least 4, and a power of two, which std's `is_power_of_two` checks.
 pub fn reverse_index_bits_long<S: Places>(m: &mut Swaps<S>)
     requires fits { IsReversible (length (S.items m.old.holder)) }
     requires not_short { 4 ≤ length (S.items m.old.holder) }
@@ -195,7 +191,7 @@ pub fn reverse_chunks_on<S: Places>(m: &mut Swaps<S>, lb_num_chunks: usize, lb_c
         m.old.holder m.new.holder }
 {
     let _len = m.len();
-    reverse_row_index_bits_on(m, pow2(lb_chunk_size));
+    swap_rows(m, pow2(lb_chunk_size), lb_num_chunks);
 }
 
 /// Reverses the items of a holder by index bits, by a counter that starts at 0.

@@ -2,7 +2,7 @@
 //! the types that they use.
 #![tactic(auto)]
 
-pub use p3_util_callers::joined::Joined;
+pub use p3_util_examples::joined::Joined;
 
 pub mod elements;
 pub mod keys;

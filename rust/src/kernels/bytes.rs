@@ -1,4 +1,4 @@
-// rust/erase writes this file from crates/p3_util_calls/src/bytes.rt. Make changes there.
+// rust/erase writes this file from crates/p3_util_dispatch/src/bytes.rt. Make changes there.
 //! In places of how many bytes a list is reversed. The package takes most lists as bytes, since it has instances of the kernels
 //! for each usual size of an item, and not for each type.
 

@@ -1,4 +1,4 @@
-// rust/erase writes this file from crates/p3_util_calls/src/calls.rt. Make changes there.
+// rust/erase writes this file from crates/p3_util_dispatch/src/calls.rt. Make changes there.
 //! What a call on slices does, once its precondition was tested. Whatever a holder says of itself, and whatever
 //! [`choice`](crate::kernels::choice) chooses, each function here does what its name says: its contract is that of the kernel.
 
@@ -9,12 +9,14 @@ use crate::kernels::choice::{
     has_lines, row_blocks_of, side_of, strips_of,
 };
 use crate::kernels::lines::Lines;
-use crate::kernels::kernel::{
-    Ahead, Blocked, Blocks, Columns, InCols, InRows, Matrix, PutColumn, PutRegion, RowDigits,
-    ShortColumns, Tiled, UNIT, put_as_block,
+use crate::kernels::bulk::{Ahead, Blocked, Tiled};
+use crate::kernels::rows::RowDigits;
+use crate::kernels::strips::UNIT;
+use crate::kernels::ways::{
+    Blocks, Columns, InCols, InRows, PutColumn, PutRegion, ShortColumns, put_as_block,
 };
 use crate::kernels::places::{Cells, Source};
-use crate::kernels::transpose::Region;
+use crate::kernels::transpose::{Matrix, Region};
 
 /// The bytes of a cache line.
 pub(crate) const LINE: usize = 64;
@@ -263,5 +265,5 @@ pub(crate) fn transpose_region<M: Output, R: Ahead<Item = M::Item> + Copy>(
 #[inline(always)]
 pub(crate) fn reverse_rows<M: Tiled>(items: M, row_width: usize) -> M {
     let rows = RowDigits::of(items.len(), row_width);
-    crate::kernels::kernel::reverse_rows(items, rows)
+    crate::kernels::rows::reverse_rows(items, rows)
 }

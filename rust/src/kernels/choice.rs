@@ -1,4 +1,4 @@
-// rust/erase writes this file from crates/p3_util_calls/src/choice.rt. Make changes there.
+// rust/erase writes this file from crates/p3_util_dispatch/src/choice.rt. Make changes there.
 //! How a matrix, or a part of it, is put. Each way is right for each matrix: this is what the contracts of
 //! [`calls`](crate::kernels::calls) say, whatever the functions here return.
 //!
@@ -25,8 +25,9 @@
 
 #[cfg(target_pointer_width = "32")]
 use crate::width::Index as usize;
-use crate::kernels::kernel::{HIGH_ROWS, Matrix, RowBlocks, Strips, TINY_MATRIX, UNIT};
-use crate::kernels::transpose::Region;
+use crate::kernels::strips::{HIGH_ROWS, Strips, TINY_MATRIX, UNIT};
+use crate::kernels::ways::RowBlocks;
+use crate::kernels::transpose::{Matrix, Region};
 
 /// An item of so many bytes is exchanged as a run of bytes, which takes hardly longer, and is put by a function of its own.
 pub(crate) const LONG_BYTES: usize = 1024;

@@ -1,4 +1,4 @@
-// rust/erase writes this file from crates/p3_util_kernels/src/grid.rt. Make changes there.
+// rust/erase writes this file from crates/p3_util_fast/src/grid.rt. Make changes there.
 //! Squares of a list, and the exchange of their items across the diagonal.
 //!
 //! A *grid* is a square with 2^k rows and columns. Its row `x` begins at a place of the list, and
@@ -17,8 +17,9 @@
 
 #[cfg(target_pointer_width = "32")]
 use crate::width::Index as usize;
+use crate::kernels::bulk::Tiled;
 use crate::kernels::bits::{pow2, reverse_bits_len};
-use crate::kernels::places::bulk::Tiled;
+use crate::kernels::reverse::REVERSED_SIX;
 use crate::kernels::transpose::Region;
 
 /// The number of rows and of columns of a tile.
@@ -26,15 +27,6 @@ pub(crate) const TILE: usize = 8;
 
 /// The greatest number of rows and of columns of a region that is not cut further.
 const LEAF: usize = 64;
-
-/// Entry `i` has the six binary digits of `i` in reversed order. Reading this table once is faster
-/// than reversing so few digits by halves. It is a `const`, so that the compiler knows its entries
-/// where it knows the index.
-const REVERSED_SIX: [u8; 64] = [
-    0, 32, 16, 48, 8, 40, 24, 56, 4, 36, 20, 52, 12, 44, 28, 60, 2, 34, 18, 50, 10, 42, 26, 58, 6,
-    38, 22, 54, 14, 46, 30, 62, 1, 33, 17, 49, 9, 41, 25, 57, 5, 37, 21, 53, 13, 45, 29, 61, 3, 35,
-    19, 51, 11, 43, 27, 59, 7, 39, 23, 55, 15, 47, 31, 63,
-];
 
 /// A square of `2^digits` rows and columns in a list of runs of `width` items.
 #[derive(Clone, Copy)]

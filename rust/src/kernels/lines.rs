@@ -1,4 +1,4 @@
-// rust/erase writes this file from crates/p3_util_calls/src/lines.rt. Make changes there.
+// rust/erase writes this file from crates/p3_util_dispatch/src/lines.rt. Make changes there.
 //! Puts a region by *lines*: by the cache lines of the output, from the first cell of a line to its last.
 //!
 //! The region is put panel after panel. A *panel* has 1024 columns, and is put by rows of lines, from top to bottom. A *row of
@@ -8,10 +8,9 @@
 
 #[cfg(target_pointer_width = "32")]
 use crate::width::Index as usize;
-use crate::kernels::kernel::{
-    Ahead, Blocked, Columns, InCols, Matrix, Outlined, PutRegion, put_as_block,
-};
-use crate::kernels::transpose::Region;
+use crate::kernels::bulk::{Ahead, Blocked};
+use crate::kernels::ways::{Columns, InCols, Outlined, PutRegion, put_as_block};
+use crate::kernels::transpose::{Matrix, Region};
 
 /// Lines are put in so many columns at a time. The memory pages that these columns are on are few
 /// enough for the processor to keep all of their addresses.

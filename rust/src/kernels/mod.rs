@@ -2,13 +2,12 @@
 #![warn(clippy::default_numeric_fallback)]
 
 pub mod bits;
+pub(crate) mod bulk;
 #[cfg(target_pointer_width = "64")]
 pub(crate) mod bytes;
 pub(crate) mod calls;
 pub(crate) mod choice;
 pub(crate) mod grid;
-#[cfg_attr(target_pointer_width = "32", allow(unused_imports))]
-pub(crate) mod kernel;
 pub(crate) mod lines;
 #[cfg(target_pointer_width = "64")]
 pub(crate) mod part;
@@ -18,7 +17,10 @@ pub mod places;
 #[cfg(target_pointer_width = "64")]
 pub(crate) mod registers;
 pub mod reverse;
+pub(crate) mod rows;
+pub(crate) mod strips;
 pub mod transpose;
+pub(crate) mod ways;
 
 pub mod chunks;
 pub mod linear_map;

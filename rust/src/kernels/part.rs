@@ -1,9 +1,9 @@
-// rust/erase writes this file from crates/p3_util_calls/src/part.rt. Make changes there.
+// rust/erase writes this file from crates/p3_util_dispatch/src/part.rt. Make changes there.
 //! What a part of a call does.
 
 use crate::kernels::calls::{Output, reverse_rows, transpose_region};
 use crate::kernels::parts::{Part, ReversalPlan, TransposePlan, Work};
-use crate::kernels::kernel::{Ahead, Tiled};
+use crate::kernels::bulk::{Ahead, Tiled};
 
 /// Puts the region of a part.
 #[inline(never)]

@@ -1,4 +1,4 @@
-// rust/erase writes this file from crates/p3_util_calls/src/parts.rt. Make changes there.
+// rust/erase writes this file from crates/p3_util_dispatch/src/parts.rt. Make changes there.
 //! Cuts a call into parts, each of which may run on a thread of its own. No thread is started here.
 //!
 //! - A *plan* says how a call is cut: a [`TransposePlan`] for a transpose, and a [`ReversalPlan`]
@@ -20,7 +20,9 @@ mod transpose;
 pub(crate) use asked::{one_part_items, ranges_if_cut};
 pub(crate) use lists::{PartToRun, PartsToRun, Shared};
 pub(crate) use numbers::Part;
-use crate::kernels::kernel::{RowDigits, TILE, pow2};
+use crate::kernels::grid::TILE;
+use crate::kernels::rows::RowDigits;
+use crate::kernels::bits::pow2;
 use crate::kernels::transpose::Region;
 pub(crate) use reversal::{ReversalPlan, Work};
 pub(crate) use transpose::TransposePlan;

@@ -14,24 +14,20 @@
 //! - A *counter* is a holder around another holder, and counts the steps of the holder inside.
 //!   [`Swaps`] counts exchanges, and an exchange that it counts is called a *swap*. [`Writes`]
 //!   counts puts, and a put that it counts is called a *write*.
-//! - A *kernel* is the generic function that does the work of a call. It takes a holder by value,
-//!   changes the list and returns the holder.
+//! - A *kernel* is a private generic function that does the work of a call. It is given a counter
+//!   and makes single swaps or writes.
 //!
 //! The traits of holders have only a length and one step, or one read. A kernel is generic over its
-//! holder, so it changes the list by steps alone, and its contract can give the exact number of
-//! steps that the holder makes. The kernel can neither leave out a step nor make an extra one. A
-//! counter makes each step by itself and counts it, also where a kernel asks for many at once.
+//! holder, so it changes the list by steps alone, and its contract gives the exact number of steps
+//! that the holder makes. The kernel can neither leave out a step nor make an extra one.
 //!
-//! A reference to a holder is a holder too. A call on a slice runs its kernel on a holder of that
-//! slice. A call whose name ends in `_on`, `_short` or `_long` is given a counter. It runs its
-//! kernel on a counter that continues from the given count.
+//! A reference to a holder is a holder too. A call whose name ends in `_on`, `_short` or `_long` is
+//! given a counter and adds to its count. A call on a slice is the `_on` call over a counter that
+//! starts at 0, around a holder of that slice.
 
 #[cfg(target_pointer_width = "32")]
 use crate::width::Index as usize;
 
-// `bulk` has hidden traits above these, by which a kernel asks for many steps at once. Only holders
-// of slices, here and in the package, have faster ways to make them. Counters make them one by one.
-pub(crate) mod bulk;
 mod counters;
 mod references;
 mod slices;

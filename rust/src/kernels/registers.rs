@@ -1,4 +1,4 @@
-// rust/erase writes this file from crates/p3_util_registers/src/registers.rt. Make changes there.
+// rust/erase writes this file from crates/p3_util_fast/src/registers.rt. Make changes there.
 //! Squares of items that are transposed in registers, for holders that can read, write and interleave
 //! registers.
 //!
@@ -30,7 +30,7 @@ pub(crate) mod blocks;
 pub(crate) mod line_blocks;
 pub(crate) mod tiles;
 
-use crate::kernels::kernel::Block;
+use crate::kernels::bulk::Block;
 
 /// Some items, one after another, as many for each register of a type.
 pub(crate) trait Register<T>: Copy {

@@ -5,32 +5,29 @@
 //! The rows of a list can be reordered in the same way, by the index of each row. The items within
 //! a row then keep their order.
 //!
-//! A call exchanges each pair of items, or of rows, whose indices are each other's reverse. For
-//! single items this is the *short path*. A call that counts its swaps takes the short path for up
-//! to 8192 items, and the long one for more. The *long path* makes three passes and more swaps. Its
-//! number of swaps is part of the contracts of these calls. A call on a slice takes the short path
-//! at every length.
+//! There are two paths. The *short path* swaps each pair of items, or of rows, whose indices are
+//! each other's reverse. The *long path* makes three passes over chunks and squares, and more swaps.
+//! Rows are always reversed by the short path. A list of single items takes the short path for up
+//! to 8192 items, and the long path for more. A call on a slice is the call whose name ends in
+//! `_on`, over a counter that starts at 0.
 //!
 //! It is proved that each call leaves the list in bit-reversed order (`IsReversal`,
-//! `IsRowReversal`). For the calls that count, the exact number of swaps is proved too. The order
-//! of the swaps is only tested. Which path a call on a slice takes can be seen only in its speed.
+//! `IsRowReversal`). For the calls that are given a counter, the exact number of swaps is proved
+//! too. The order of the swaps is only tested.
 
 #[cfg(target_pointer_width = "32")]
 use crate::width::Index as usize;
 
-// `rows` has the short path, which is that of rows of any width, and `long` has the long path. The
-// module `grid` makes the exchanges of both.
 mod long;
-pub(crate) mod rows;
+mod rows;
 
-use crate::kernels::places::bulk::Tiled;
+use crate::kernels::bits::{log2_strict_usize, pow2};
 use crate::kernels::places::{Places, SlicePlaces, Swaps};
-use long::reverse_long;
-use rows::reverse_chunks;
-pub(crate) use rows::{RowDigits, reverse_rows, reverse_short};
+use long::transpose_squares_on;
+pub(crate) use rows::REVERSED_SIX;
+use rows::swap_rows;
 
-/// A call that counts its swaps takes the short path for at most this many items, and the long path
-/// for more.
+/// A list of at most this many items takes the short path, and a longer one the long path.
 const SHORT_PATH_ITEMS: usize = 8192;
 
 /// Whether `len` items can be cut into rows of `row_width` items so that the number of rows is zero
@@ -54,7 +51,7 @@ pub const fn fits_rows(len: usize, row_width: usize) -> bool {
 /// order. A second call restores the original order. No item is cloned or dropped.
 #[allow(dead_code)]
 pub(crate) fn reverse_slice_index_bits<F>(vals: &mut [F]) {
-    let _ = reverse_items(vals);
+    on_fresh_counter(&mut SlicePlaces::new(vals));
 }
 
 /// Reverses the order of the rows of `vals` by index bits, and does not check the length: the rows
@@ -65,7 +62,7 @@ pub(crate) fn reverse_slice_index_bits<F>(vals: &mut [F]) {
 /// order. A second call restores the original order. No item is cloned or dropped.
 #[allow(dead_code)]
 pub(crate) fn reverse_slice_row_index_bits<F>(vals: &mut [F], row_width: usize) {
-    let _ = reverse_rows_of_items(vals, row_width);
+    rows_on_fresh_counter(&mut SlicePlaces::new(vals), row_width);
 }
 
 /// Reverses `m` by index bits, as [`reverse_slice_index_bits`] does: by the short path up to 8192
@@ -74,7 +71,11 @@ pub(crate) fn reverse_slice_row_index_bits<F>(vals: &mut [F], row_width: usize) 
 /// A list of n items takes at most 3n/2 swaps. The length must be zero or a power of two, which
 /// `fits_rows(m.len(), 1)` checks.
 pub fn reverse_index_bits_on<S: Places>(m: &mut Swaps<S>) {
-    m.count = reverse_index_bits(Swaps::resumed(&mut m.holder, m.count)).swaps();
+    if m.len() <= SHORT_PATH_ITEMS {
+        reverse_index_bits_short(m);
+    } else {
+        reverse_index_bits_long(m);
+    }
 }
 
 /// Reverses `m` by index bits, as [`reverse_slice_index_bits`] does.
@@ -82,17 +83,20 @@ pub fn reverse_index_bits_on<S: Places>(m: &mut Swaps<S>) {
 /// Each pair of items whose indices are each other's reverse is swapped once. The length must be
 /// zero or a power of two, which `fits_rows(m.len(), 1)` checks.
 pub fn reverse_index_bits_short<S: Places>(m: &mut Swaps<S>) {
-    m.count = reverse_short(Swaps::resumed(&mut m.holder, m.count)).swaps();
+    reverse_row_index_bits_on(m, 1);
 }
 
 /// Reverses `m` by index bits, as [`reverse_slice_index_bits`] does, in three passes over chunks and
 /// squares.
 ///
-/// A list of n items takes at most 3n/2 swaps. [`reverse_index_bits_short`] takes at most n/2, but
-/// the order of the swaps here suits lists that do not fit in a cache. The length must be at least
-/// 4, and a power of two, which std's `is_power_of_two` checks.
+/// A list of n items takes at most 3n/2 swaps, while [`reverse_index_bits_short`] takes at most n/2.
+/// The length must be at least 4, and a power of two, which std's `is_power_of_two` checks.
 pub fn reverse_index_bits_long<S: Places>(m: &mut Swaps<S>) {
-    m.count = reverse_long(Swaps::resumed(&mut m.holder, m.count)).swaps();
+    let digits = log2_strict_usize(m.len());
+    let half = digits / 2;
+    reverse_chunks_on(m, half, digits - half);
+    transpose_squares_on(m, digits - half, half);
+    reverse_chunks_on(m, half, digits - half);
 }
 
 /// Reverses the order of the rows of `m` by index bits.
@@ -101,8 +105,11 @@ pub fn reverse_index_bits_long<S: Places>(m: &mut Swaps<S>) {
 /// has the k bits of `r` in reversed order. The number of rows must be zero or a power of two,
 /// which [`fits_rows`] checks.
 pub fn reverse_row_index_bits_on<S: Places>(m: &mut Swaps<S>, row_width: usize) {
-    let rows = RowDigits::of(m.len(), row_width);
-    m.count = reverse_rows(Swaps::resumed(&mut m.holder, m.count), rows).swaps();
+    let len = m.len();
+    if len == 0 {
+        return;
+    }
+    swap_rows(m, row_width, log2_strict_usize(len / row_width));
 }
 
 /// Reverses the order of chunks by index bits.
@@ -113,34 +120,18 @@ pub fn reverse_row_index_bits_on<S: Places>(m: &mut Swaps<S>, row_width: usize) 
 /// `2^(h + c)`. To check the length, compare it with the power that
 /// [`checked_log_size_sum`](crate::kernels::bits::checked_log_size_sum) returns for the two exponents.
 pub fn reverse_chunks_on<S: Places>(m: &mut Swaps<S>, lb_num_chunks: usize, lb_chunk_size: usize) {
-    let counter = Swaps::resumed(&mut m.holder, m.count);
-    m.count = reverse_chunks(counter, lb_num_chunks, lb_chunk_size).swaps();
+    let _len = m.len();
+    swap_rows(m, pow2(lb_chunk_size), lb_num_chunks);
 }
 
-/// Runs the kernel on a holder of the slice and returns the slice. The kernel takes the holder by
-/// value. After that, a proof knows nothing about the slice that the holder borrowed. So the
-/// contract is about the slice that is returned, and says by `ghost_name` that this is the slice
-/// `vals`.
-#[inline(always)]
-fn reverse_items<F>(vals: &mut [F]) -> &mut [F] {
-    let SlicePlaces { items } = reverse_short(SlicePlaces::new(vals));
-    items
+/// Reverses the items of a holder by index bits, by a counter that starts at 0.
+fn on_fresh_counter<S: Places>(places: &mut S) {
+    let mut m = Swaps::new(places);
+    reverse_index_bits_on(&mut m);
 }
 
-/// Does the same as [`reverse_items`], for rows.
-#[inline(always)]
-fn reverse_rows_of_items<F>(vals: &mut [F], row_width: usize) -> &mut [F] {
-    let rows = RowDigits::of(vals.len() as usize, row_width);
-    let SlicePlaces { items } = reverse_rows(SlicePlaces::new(vals), rows);
-    items
-}
-
-/// The kernel of [`reverse_index_bits_on`].
-#[inline(always)]
-pub(crate) fn reverse_index_bits<M: Tiled>(m: M) -> M {
-    if m.len() <= SHORT_PATH_ITEMS {
-        reverse_short(m)
-    } else {
-        reverse_long(m)
-    }
+/// Reverses the rows of a holder by index bits, by a counter that starts at 0.
+fn rows_on_fresh_counter<S: Places>(places: &mut S, row_width: usize) {
+    let mut m = Swaps::new(places);
+    reverse_row_index_bits_on(&mut m, row_width);
 }

@@ -1,8 +1,9 @@
 //! Kernels for each type of item, and none for each size: with the feature `checked` and on systems of 32 bits. Only `slices.rs`
 //! uses this file.
 
+use crate::kernels::bulk::Tiled;
 pub(super) use crate::kernels::calls::transpose_whole;
-use crate::kernels::kernel::{Tiled, reverse_short};
+use crate::kernels::rows::reverse_short;
 use crate::width::Index;
 #[cfg(target_pointer_width = "64")]
 pub(super) use in_parts::{Sizes, reverse_part, transpose_part};

@@ -3,8 +3,8 @@
 
 use core::mem::take;
 
+use crate::kernels::bulk::{Ahead, Block, Blocked, Tiled};
 use crate::kernels::calls::Output;
-use crate::kernels::kernel::{Ahead, Block, Blocked, Tiled};
 use crate::kernels::parts::Shared;
 use crate::kernels::places::{Cells, Places, SliceCells, SlicePlaces};
 // A whole list is no range of another one, so no index has to be moved.

@@ -16,8 +16,8 @@ use bytes::{Unaligned, move_bytes, swap_bytes, write_item};
 pub(crate) use registers::USES_REGISTERS;
 pub(super) use registers::{Items, Vector};
 
+use crate::kernels::bulk::{Ahead, Block, Blocked, Tiled};
 use crate::kernels::calls::{LINE, Output};
-use crate::kernels::kernel::{Ahead, Block, Blocked, Tiled};
 use crate::kernels::lines::Lines;
 use crate::kernels::parts::Shared;
 use crate::kernels::places::{Cells, Places, Source};
@@ -26,7 +26,8 @@ use crate::kernels::registers::blocks::{
 };
 use crate::kernels::registers::tiles::{self, RunsOfPlaces};
 use crate::kernels::registers::{Loads, Register, Runs, Single, Two};
-use crate::kernels::transpose::{Matrix, PutRegion, Region};
+use crate::kernels::transpose::{Matrix, Region};
+use crate::kernels::ways::PutRegion;
 
 mod bytes;
 mod cache;

@@ -8,10 +8,11 @@
 //! If the processor does not move unaligned bytes as fast as aligned ones, each type has kernels of its own.
 
 use super::holders::{Bytes, Items, MOVES_BYTES, SliceItems, SliceSource, USES_REGISTERS, Vector};
+use crate::kernels::bulk::Tiled;
 use crate::kernels::bytes::{self, ByteInstances, Instances, is_run};
-use crate::kernels::kernel::{Tiled, reverse_short};
 use crate::kernels::parts::{Part, ReversalPlan, RowPairs, TransposePlan};
 use crate::kernels::registers::{Pair, Two};
+use crate::kernels::rows::reverse_short;
 use crate::kernels::{calls, part};
 
 /// `by_size!(size)` is whether the size is in this table. `by_size!(size, holder = list => call, _ => other)` is `call` if

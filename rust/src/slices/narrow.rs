@@ -1,8 +1,8 @@
 //! The holders of slices on a system of 32 bits: those of the kernels, which check each index. The feature `checked` changes
 //! nothing there.
 
+use crate::kernels::bulk::Ahead;
 use crate::kernels::calls::Output;
-use crate::kernels::kernel::Ahead;
 pub(super) use crate::kernels::places::{SliceCells as SliceItems, SlicePlaces as WholeList, SliceSource};
 use crate::width::Index;
 

@@ -20,7 +20,7 @@
 //! A part that is dropped without being run leaves its cells, or its pairs of items, as they are. The compiler does not
 //! warn about `for _part in parts {}`, which drops all of them. Whatever you drop, forget or run in another order, and
 //! wherever a panic comes from, memory is safe, and a reversal leaves each item once. README says under "Threads" what is
-//! proved and what is reviewed, and `crates/p3_util_calls` of the repository has the contracts.
+//! proved and what is reviewed, and `crates/p3_util_dispatch` of the repository has the contracts.
 use core::fmt;
 use core::iter::FusedIterator;
 

@@ -17,17 +17,20 @@ use super::holders::Bytes;
 #[cfg(not(feature = "checked"))]
 use super::holders::{Items, Vector};
 use super::holders::{SliceItems, SliceSource};
+#[cfg(not(feature = "checked"))]
+use crate::kernels::bulk::Ahead;
+use crate::kernels::bulk::{Block, Blocked, Tiled};
 use crate::kernels::bytes::plan_in_bytes;
 use crate::kernels::choice::Limits;
-#[cfg(not(feature = "checked"))]
-use crate::kernels::kernel::Ahead;
-use crate::kernels::kernel::{Block, Blocked, HIGH_ROWS, Tiled};
+use crate::kernels::grid::{Grid, exchange_square};
 use crate::kernels::places::{Cells, Places, Source};
 #[cfg(not(feature = "checked"))]
 use crate::kernels::registers::blocks::LinesOfCells;
 #[cfg(not(feature = "checked"))]
 use crate::kernels::registers::{Loads, Pair, Paired, Register, Runs, Two};
-use crate::kernels::transpose::{Matrix, Strips, transpose_matrix, transpose_square};
+use crate::kernels::strips::{HIGH_ROWS, Strips};
+use crate::kernels::transpose::Matrix;
+use crate::kernels::ways::PutRegion;
 
 /// The strips of the package.
 type SliceStrips<const SIDE: usize> = Strips<SIDE, HIGH_ROWS>;
@@ -261,7 +264,16 @@ fn turns_of_squares<T: Debug + PartialEq, H: for<'a> Hold<'a, T>>(item: impl Fn(
         leaves::<T, H>(
             base + size * stride + 1,
             &item,
-            |places| _ = transpose_square(places, base, log_stride, log_size),
+            |places| {
+                let square = Grid {
+                    width: 1,
+                    base,
+                    stride,
+                    digits: log_size,
+                    reversed: false,
+                };
+                let _ = exchange_square(places, square, log_size < 3);
+            },
             |place| match place.checked_sub(base).map(|place| (place / stride, place % stride)) {
                 Some((row, col)) if row < size && col < size => base + col * stride + row,
                 _ => place,
@@ -449,8 +461,8 @@ fn transposes_by_blocks<T: Copy + PartialEq + 'static>(width: usize, height: usi
         let matrix = Matrix::new(Holder::source(&input), width, height);
         let cells = Holder::hold(&mut output);
         let _ = match side {
-            4 => transpose_matrix(cells, matrix, SliceStrips::<4>::Squares),
-            _ => transpose_matrix(cells, matrix, SliceStrips::<8>::Squares),
+            4 => SliceStrips::<4>::Squares.put(cells, matrix, matrix.whole()),
+            _ => SliceStrips::<8>::Squares.put(cells, matrix, matrix.whole()),
         };
         assert!(output == expected, "{width} by {height}, by blocks of {side} by {side}");
     });

@@ -4,7 +4,7 @@ use Rattle.std.proofs.lemmas.Bool.{cases_lt, and_parts}
 use Rattle.std.proofs.Math.Nat.{pow-le-pow_right}
 use Rattle.p3_util_kernels.specs.Digits.{rev}
 use Rattle.p3_util_kernels.specs.Sums.{sum_below}
-use Rattle.p3_util_kernels.specs.declared.reverse.short.TheConstants.{REVERSED_SIX}
+use Rattle.p3_util_kernels.specs.declared.reverse.rows.TheConstants.{REVERSED_SIX}
 use Rattle.p3_util_kernels.specs.declared.bits.TheConstants.{POWERS_OF_THREE, EXPONENTS_OF_THREE}
 use Rattle.p3_util_kernels.proofs.BitsLemmas.Powers.{three-apart, three-fits, three-greatest}
 

@@ -6,7 +6,7 @@ use Rattle.std.proofs.lemmas.Nat.{div-mul-add, mod-mul-add}
 use Rattle.p3_util_kernels.specs.Sums.{sum_below}
 use Rattle.p3_util_kernels.specs.Least.{count_below}
 use Rattle.p3_util_kernels.proofs.BitsLemmas.Sums.{sum_below-same}
-use Rattle.p3_util_kernels.proofs.GridLemmas.Pairs.{mul-pred}
+use Rattle.p3_util_kernels.proofs.BitsLemmas.Pairs.{mul-pred}
 
 -- what a number adds to the count: 1 if it passes the test, and otherwise 0
 abbrev pub one : Bool → ℕ

@@ -12,7 +12,7 @@ use Rattle.p3_util_kernels.proofs.LawsLemmas.Counts.{count-all, count-not, count
 use Rattle.p3_util_kernels.proofs.PlacesLemmas.WrittenPlaces.{puts-places, puts-written, swaps-places, swaps-written, written-change}
 use Rattle.p3_util_kernels.proofs.BitsLemmas.Digits.{middle-below, rev-around, rev-lt, rev-rev-below}
 use Rattle.p3_util_kernels.proofs.TransposeLemmas.Matrix.{each_place}
-use Rattle.p3_util_kernels.proofs.GridLemmas.Pairs.{mul-pred, twice-pairs}
+use Rattle.p3_util_kernels.proofs.BitsLemmas.Pairs.{mul-pred, twice-pairs}
 
 -- one exchange changes at most two places
 pub swaps-change : {A : Type 0} → SwapsChange A

@@ -1,19 +1,8 @@
--- Runs of places exchanged, place by place or as slices.
-use Rattle.std.proofs.Common.{◌≡◌, ℕ, ◌+◌, ◌-◌, min, max, ◌<◌, ◌≤◌, ◌⊎◌, List, ◌++◌, length, slice_get, take, drop, length-append, length-drop, inl, inr, refl, ap, ◌∙◌, swap, length-take, arith}
-use Rattle.std.proofs.lemmas.Bool.{cases_lt}
+-- Runs of places exchanged, place by place.
+use Rattle.std.proofs.Common.{◌≡◌, ℕ, ◌+◌, ◌-◌, ◌<◌, ◌≤◌, List, length, inl, inr, ap, ◌∙◌, swap, arith}
 use Rattle.std.proofs.lemmas.List.Edits.{length-swap}
 use Rattle.p3_util_kernels.specs.Exchanged.{RunsExchanged}
-use Rattle.p3_util_kernels.proofs.PlacesLemmas.ListParts.{slice_get-append_left, slice_get-append_right, slice_get-take, slice_get-drop}
 use Rattle.p3_util_kernels.proofs.PlacesLemmas.Exchange.{slice_get-swap_first, slice_get-swap_second, slice_get-swap_other}
-
--- the same exchange with the two runs named in the other order
-pub RunsExchanged-turned : {A : Type 0} (i j len : ℕ) (old new : List A) → RunsExchanged i j len old new → RunsExchanged j i len old new
-RunsExchanged-turned i j len old new h = record { same_length = h.same_length; first = h.second; second = h.first; others = λ p k l. h.others p l k }
-
--- the same exchange with the lower run named first
-pub RunsExchanged-ordered : {A : Type 0} (i j low high len : ℕ) (old new : List A) → low ≡ min i j → high ≡ max i j
-    → RunsExchanged low high len old new → RunsExchanged i j len old new
-RunsExchanged-ordered i j low high len old new is_low is_high h = grind (arith, h, RunsExchanged-turned j i len old new)
 
 -- One pair of places is two runs of one item each. The place where such a run begins is the only
 -- place in it, so a statement about a place of the run is one about that place.
@@ -27,68 +16,11 @@ RunsExchanged-one i j old new first_in second_in swapped = record {
 
 -- Two exchanged runs, and two more that follow them directly, are two longer runs. If a place is past the end of the
 -- first two runs, the other two decide what is at it, and otherwise the first two do.
-joined : {A : Type 0} (i j n m : ℕ) (old now next : List A) → i + (n + m) ≤ j → RunsExchanged i j n old now
+pub RunsExchanged-joined : {A : Type 0} (i j n m : ℕ) (old now next : List A) → i + (n + m) ≤ j → RunsExchanged i j n old now
     → RunsExchanged (i + n) (j + n) m now next → RunsExchanged i j (n + m) old next
-joined i j n m old now next apart before after = record {
+RunsExchanged-joined i j n m old now next apart before after = record {
   same_length = after.same_length ∙ before.same_length;
   first = λ t h. grind (arith, before.first t, after.others (i + t), after.first (t - n), before.others (j + n + (t - n)));
   second = λ t h. grind (arith, before.second t, after.others (j + t), after.second (t - n), before.others (i + n + (t - n)));
   others = λ p h k. grind (arith, before.others p, after.others p);
 }
-
--- two runs are exchanged, and then the two runs that follow them
-pub RunsExchanged-joined : {A : Type 0} (i j n m : ℕ) (old now next : List A) → (i + (n + m) ≤ j) ⊎ (j + (n + m) ≤ i)
-    → RunsExchanged i j n old now → RunsExchanged (i + n) (j + n) m now next → RunsExchanged i j (n + m) old next
-RunsExchanged-joined i j n m old now next (inl up) before after = joined i j n m old now next up before after
-RunsExchanged-joined i j n m old now next (inr down) before after =
-    RunsExchanged-turned j i (n + m) old next
-    (joined j i n m old now next down (RunsExchanged-turned i j n old now before) (RunsExchanged-turned (i + n) (j + n) m now next after))
-
--- a list is cut at j, and a run of one part is exchanged with a run of the other
-pub RunsExchanged-slices : {A : Type 0} (i j len n : ℕ) (xs front back first second : List A) → i + len ≤ j → j + len ≤ length xs → n ≡ len
-    → front ≡ take j xs → back ≡ drop j xs → first ≡ take len back → second ≡ take n (drop i front)
-    → RunsExchanged i j len xs ((take i front ++ (first ++ drop n (drop i front))) ++ (second ++ drop len back))
-RunsExchanged-slices i j len n xs front back first second apart within same is_front is_back is_first is_second =
-    let front_len : length front ≡ j = omega (arith, ap length is_front, length-take j xs) in
-    let back_len : length back + j ≡ length xs = omega (arith, ap length is_back, length-drop j xs) in
-    let before_len : length (take i front) ≡ i = omega (arith, length-take i front) in
-    let first_len : length first ≡ len = omega (arith, ap length is_first, length-take len back) in
-    let second_len : length second ≡ len = omega (arith, ap length is_second, length-take n (drop i front), length-drop i front) in
-    let rest_len : length (drop n (drop i front)) + (i + len) ≡ j = omega (arith, length-drop n (drop i front), length-drop i front) in
-    let left = take i front ++ (first ++ drop n (drop i front)) in
-    let left_len : length left ≡ j = omega (arith, length-append (take i front) (first ++ drop n (drop i front)), length-append first (drop n (drop i front))) in
-    let of_front : (p : ℕ) → p < j → slice_get front p ≡ slice_get xs p = λ p h. ap (λ ys. slice_get ys p) is_front ∙ slice_get-take j xs p h in
-    let of_back : (p q : ℕ) → q ≡ j + p → slice_get back p ≡ slice_get xs q = λ p q e. ap (λ ys. slice_get ys p) is_back ∙ slice_get-drop j xs p q e in
-    record {
-      same_length = omega (arith, length-append left (second ++ drop len back), length-append second (drop len back), length-drop len back);
-      first = λ t h.
-          slice_get-append_left left (second ++ drop len back) (i + t) (omega arith)
-          ∙ slice_get-append_right (take i front) (first ++ drop n (drop i front)) (i + t) t (omega arith)
-          ∙ slice_get-append_left first (drop n (drop i front)) t (omega arith)
-          ∙ ap (λ ys. slice_get ys t) is_first ∙ slice_get-take len back t h ∙ of_back t (j + t) refl;
-      second = λ t h.
-          slice_get-append_right left (second ++ drop len back) (j + t) t (omega arith)
-          ∙ slice_get-append_left second (drop len back) t (omega arith)
-          ∙ ap (λ ys. slice_get ys t) is_second ∙ slice_get-take n (drop i front) t (omega arith) ∙ slice_get-drop i front t (i + t) refl ∙ of_front (i + t) (omega arith);
-      others = λ p h k.
-          elim (cases_lt p i) [
-            | inl early ↦
-                slice_get-append_left left (second ++ drop len back) p (omega arith)
-                ∙ slice_get-append_left (take i front) (first ++ drop n (drop i front)) p (omega arith)
-                ∙ slice_get-take i front p early ∙ of_front p (omega arith)
-            | inr later ↦
-                let past : i + len ≤ p = elim h [ inl l ↦ absurd (omega arith) | inr r ↦ r ] in
-                elim (cases_lt p j) [
-                  | inl between ↦
-                      slice_get-append_left left (second ++ drop len back) p (omega arith)
-                      ∙ slice_get-append_right (take i front) (first ++ drop n (drop i front)) p (p - i) (omega arith)
-                      ∙ slice_get-append_right first (drop n (drop i front)) (p - i) (p - i - len) (omega arith)
-                      ∙ slice_get-drop n (drop i front) (p - i - len) (p - i) (omega arith) ∙ slice_get-drop i front (p - i) p (omega arith) ∙ of_front p between
-                  | inr after ↦
-                      let beyond : j + len ≤ p = elim k [ inl l ↦ absurd (omega arith) | inr r ↦ r ] in
-                      slice_get-append_right left (second ++ drop len back) p (p - j) (omega arith)
-                      ∙ slice_get-append_right second (drop len back) (p - j) (p - j - len) (omega arith)
-                      ∙ slice_get-drop len back (p - j - len) (p - j) (omega arith) ∙ of_back (p - j) p (omega arith)
-                ]
-          ];
-    }

@@ -4,7 +4,7 @@ use Rattle.std.specs.Int.{bit_at, is_power_of_two}
 use Rattle.std.proofs.Math.Nat.{le-mul_of_pos_right, mul-div_cancel_left, pow-suc, zero-div}
 use Rattle.std.proofs.lemmas.Bool.{cases_eq, or_cases}
 use Rattle.std.proofs.lemmas.Nat.Bits.{bit_at_and, bit_at-zero}
-use Rattle.std.proofs.lemmas.Nat.{div-add-mod', div-mul-add, mod-mul-add, pow-add, pow_pos}
+use Rattle.std.proofs.lemmas.Nat.{div-add-mod', div-mul-add, mod-mul-add}
 use Rattle.p3_util_kernels.specs.Logarithms.{clog}
 use Rattle.p3_util_kernels.specs.Reversal.{IsZeroOrPowerOfTwo, IsReversible, FitsRows}
 use Rattle.p3_util_kernels.proofs.BitsLemmas.Logarithms.{clog_power, clog-zero}
@@ -64,16 +64,6 @@ FitsRows-quotient len row_width some wide whole =
 pub rows-same : (row_width j k : ℕ) → 0 < row_width → row_width * 2 ^ j ≡ row_width * 2 ^ k → j ≡ k
 rows-same row_width j k wide e =
     exponent-same j k (sym (mul-div_cancel_left (2 ^ j) wide) ∙ ap (λ n. n / row_width) e ∙ mul-div_cancel_left (2 ^ k) wide)
-
--- 2 ^ h chunks of 2 ^ c items are rows of 2 ^ c items
-pub chunks_fit : (h c n : ℕ) → n ≡ 2 ^ (h + c) → FitsRows n (2 ^ c)
-chunks_fit h c n whole = (2 ^ h, inr (h, refl), omega (arith, pow-add 2 h c))
-
--- the number of chunks has the logarithm h
-pub chunks_counted : (h c n : ℕ) → n ≡ 2 ^ (h + c) → clog (n / 2 ^ c) ≡ h
-chunks_counted h c n whole =
-    let chunks : n ≡ 2 ^ c * 2 ^ h = omega (arith, pow-add 2 h c) in
-    clog_power _ h (ap (λ x. x / 2 ^ c) chunks ∙ mul-div_cancel_left (2 ^ h) (pow_pos c))
 
 -- for a list that is not empty: there are 2 ^ `digits` rows
 pub record IsDigitsOfRows (len row_width digits : ℕ) : Type 0 where

@@ -1,5 +1,5 @@
 -- Squares that lie side by side are transposed one after another.
-use Rattle.std.proofs.Common.{◌≡◌, ℕ, ◌+◌, ◌-◌, ◌*◌, ◌^◌, ◌<◌, ◌≤◌, List, slice_get, sym, ap, ◌∙◌, arith}
+use Rattle.std.proofs.Common.{◌≡◌, ℕ, ◌+◌, ◌-◌, ◌*◌, ◌^◌, ◌<◌, ◌≤◌, List, slice_get, refl, sym, ap, ◌∙◌, arith}
 use Rattle.std.proofs.lemmas.Nat.{pow-add, pow_pos, mul-add-lt, same_from_place}
 use Rattle.p3_util_kernels.proofs.BitsLemmas.Digits.{middle-below}
 use Rattle.p3_util_kernels.proofs.TransposeLemmas.Matrix.{each_place}
@@ -44,6 +44,14 @@ module _ (log_stride log_size : ℕ) (within : log_size ≤ log_stride) where
         let row = same_from_place a (s * 2 ^ log_size + b) c (i * 2 ^ log_size + d) (2 ^ log_stride) (in_row s b hs hb) (in_row i d hi hd) (omega arith) in
         apart (same_from_place s b i d (2 ^ log_size) hb hd row.1).0)
 
+    -- no square is transposed yet
+    AreTransposed-none : (xs : List A) → AreTransposed 0 log_stride log_size xs xs
+    AreTransposed-none xs = record {
+      same_length = refl;
+      crossed = λ s a b hs ha hb. absurd (omega arith);
+      kept = λ s a b from hs ha hb. refl;
+    }
+
     -- one more square is transposed
     pub AreTransposed-more : (i : ℕ) (old now next : List A) → i < 2 ^ (log_stride - log_size)
         → AreTransposed i log_stride log_size old now → IsSquareTransposed (i * 2 ^ log_size) log_stride log_size now next
@@ -54,3 +62,17 @@ module _ (log_stride log_size : ℕ) (within : log_size ≤ log_stride) where
           grind (arith, elsewhere i s a b now next hi, at.crossed s a b, at.kept i b a, square, square.places a b);
       kept = λ s a b from hs ha hb. elsewhere i s a b now next hi hs (λ e. omega arith) hb square ∙ at.kept s a b (omega arith) hs ha hb;
     }
+
+    -- the first square is transposed
+    pub AreTransposed-one : (old new : List A) → IsSquareTransposed 0 log_stride log_size old new → AreTransposed 1 log_stride log_size old new
+    AreTransposed-one old new square =
+        let base : 0 * 2 ^ log_size ≡ 0 = omega arith in
+        AreTransposed-more 0 old old new (pow_pos (log_stride - log_size)) (AreTransposed-none old) (rw base square)
+
+    -- the first square is transposed, and then the second one, which begins at place `base`
+    pub AreTransposed-two : (base : ℕ) (old now new : List A) → 1 < 2 ^ (log_stride - log_size) → base ≡ 2 ^ log_size
+        → IsSquareTransposed 0 log_stride log_size old now → IsSquareTransposed base log_stride log_size now new
+        → AreTransposed 2 log_stride log_size old new
+    AreTransposed-two base old now new more is first second =
+        let from : base ≡ 1 * 2 ^ log_size = omega (arith, is) in
+        AreTransposed-more 1 old now new more (AreTransposed-one old now first) (rw from at second)

@@ -7,7 +7,7 @@ use Rattle.p3_util_kernels.specs.Reversal.{FitsRows, IsReversible, IsZeroOrPower
 use Rattle.p3_util_kernels.specs.SwapCounts.{short_swaps, long_swaps, square_swaps, reversal_swaps, row_swaps}
 use Rattle.p3_util_kernels.proofs.ReverseLemmas.Lengths.{zero_or_power}
 use Rattle.p3_util_kernels.proofs.BitsLemmas.Logarithms.{clog_power, clog-zero}
-use Rattle.p3_util_kernels.proofs.GridLemmas.Pairs.{twice-pairs}
+use Rattle.p3_util_kernels.proofs.BitsLemmas.Pairs.{twice-pairs}
 
 -- each swap takes two places, and there are no more places than items
 pub row_swaps-le : (row_width k : ℕ) → row_width * short_swaps k ≤ row_width * 2 ^ k / 2

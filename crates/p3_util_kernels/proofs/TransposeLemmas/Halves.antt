@@ -2,13 +2,13 @@
 use Rattle.std.proofs.Common.{◌≡◌, ℕ, ◌+◌, ◌-◌, ◌*◌, ◌/◌, ◌^◌, ◌<◌, ◌≤◌, mul_comm, arith}
 use Rattle.std.proofs.lemmas.Bool.Decides.{nat_tests}
 use Rattle.std.proofs.lemmas.Nat.{mul-le}
-use Rattle.p3_util_kernels.specs.declared.transpose.regions.Region.{Region}
+use Rattle.p3_util_kernels.specs.declared.transpose.region.Region.{Region}
 use Rattle.p3_util_kernels.specs.Halves.{AreHalves}
 use Rattle.p3_util_kernels.specs.Logarithms.{clog}
 use Rattle.p3_util_kernels.specs.Levels.{lev}
 use Rattle.p3_util_kernels.specs.Region.{LiesInMatrix, cols_of, rows_of}
 use Rattle.p3_util_kernels.proofs.BitsLemmas.Logarithms.{clog-above, clog-half, clog-le}
-use Rattle.p3_util_kernels.proofs.TransposeLemmas.Levels.{lev_le}
+use Rattle.p3_util_kernels.proofs.TransposeLemmas.Levels.{lev_le, nest_le}
 use Rattle.p3_util_kernels.proofs.TransposeLemmas.Region.{IsCut-rows, IsCut-cols}
 
 -- the splits of a region nest at most 57 levels deep if the places of its matrix fit in a usize
@@ -39,3 +39,6 @@ AreHalves-cols whole deep wide order =
 
 -- a region halved by its rows, and one halved by its columns
 pub ruleset halved = (AreHalves-rows, AreHalves-cols)
+
+-- how deep the splits of a region nest is at most 57
+pub ruleset enough_levels = (nest_le, region_levels)

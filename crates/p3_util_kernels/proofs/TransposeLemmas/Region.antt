@@ -1,10 +1,10 @@
 -- Regions of a matrix are transposed one after another.
 use Rattle.std.proofs.Common.{◌≡◌, ℕ, ◌+◌, ◌-◌, ◌*◌, ◌/◌, ◌<◌, ◌≤◌, ◌⊎◌, List, inl, inr, slice_get, refl, ◌∙◌, div-mul-le_self, mul-le-mul_right, arith}
 use Rattle.std.proofs.lemmas.Nat.{same_from_place}
-use Rattle.p3_util_kernels.specs.declared.transpose.regions.Region.{Region}
+use Rattle.p3_util_kernels.specs.declared.transpose.region.Region.{Region}
 use Rattle.p3_util_kernels.specs.Halves.{IsCut, IsPart}
 use Rattle.p3_util_kernels.specs.Region.{IsInRegion, IsRegionTransposed, cols_of, rows_of}
-use Rattle.p3_util_kernels.proofs.GridLemmas.Pairs.{mul-parts_left, mul-parts_right}
+use Rattle.p3_util_kernels.proofs.BitsLemmas.Pairs.{mul-parts_left, mul-parts_right}
 
 -- a place in a part is in the whole
 pub inside : (whole part : Region) (x y : ℕ) → IsPart whole part → IsInRegion part x y → IsInRegion whole x y

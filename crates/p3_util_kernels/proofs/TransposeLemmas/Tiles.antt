@@ -1,8 +1,8 @@
 -- A region put in two parts, and a region put column by column.
 use Rattle.std.proofs.Common.{◌≡◌, ℕ, ◌+◌, ◌-◌, ◌*◌, ◌<◌, ◌≤◌, ◌⊎◌, List, length, slice_get, mul_comm, mul-le-mul_right, arith}
-use Rattle.p3_util_kernels.specs.declared.transpose.regions.Region.{Region}
+use Rattle.p3_util_kernels.specs.declared.transpose.region.Region.{Region}
 use Rattle.p3_util_kernels.specs.Region.{IsRegionTransposed}
-use Rattle.p3_util_kernels.proofs.GridLemmas.Pairs.{mul-parts_left, mul-parts_right}
+use Rattle.p3_util_kernels.proofs.BitsLemmas.Pairs.{mul-parts_left, mul-parts_right}
 use Rattle.p3_util_kernels.proofs.TransposeLemmas.Region.{IsCut-cols, IsCut-rows, IsRegionTransposed-cut}
 
 module _ {A : Type 0} where
@@ -54,7 +54,3 @@ cell_inside x y width height hx hy = omega (arith, hx, hy, mul-le-mul_right heig
 
 pub item_inside : (x y width height : ℕ) → x < width → y < height → y * width + x < width * height
 item_inside x y width height hx hy = omega (arith, cell_inside y x height width hy hx, mul_comm width height)
-
--- the number of items of `down` rows of `across` tiles
-pub items_of_tiles : (rows cols across down : ℕ) → rows ≡ 16 * down → cols ≡ 16 * across → 256 * across * down ≡ rows * cols
-items_of_tiles rows cols across down high wide = rw (high, wide) (omega arith)

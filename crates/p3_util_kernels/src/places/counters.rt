@@ -1,11 +1,10 @@
 //! Counters: holders around another holder, which count its exchanges or its puts.
 //!
 //! A counter is itself a holder, as [`places`](crate::places) explains. The count rises by 1 with
-//! each step that the holder inside makes. The fields are visible in the whole crate, because
-//! the `_on` calls lend the holder inside to a kernel. The kernel itself cannot reach the fields of
-//! a counter, since it is generic over its holder.
+//! each step that the holder inside makes. No other module can reach the fields of a counter. So
+//! whoever has one can change the list inside only by steps that are counted.
 
-ghost use Rattle.std.specs.Prelude.{◌≡◌, ℕ, ◌+◌, ◌-◌, ◌*◌, ◌^◌, ◌<◌, ◌≤◌, ◌⊎◌, List, length, swap, slice_set};
+ghost use Rattle.std.specs.Prelude.{◌≡◌, ◌^◌, ◌<◌, length, swap, slice_set};
 ghost use Rattle.std.proofs.Common.{rules};
 ghost use Rattle.p3_util_kernels.specs.Steps.{counted};
 
@@ -70,8 +69,8 @@ impl<S: Places> Swaps<S> {
 /// A counter around a holder of cells. It counts puts. The count stops at `u128::MAX`.
 #[derive(Debug, Drop)]
 pub struct Writes<C> {
-    pub(crate) holder: C,
-    pub(crate) count: u128,
+    holder: C,
+    count: u128,
     pub ghost count_fits: { count < 2 ^ 128 },
 }
 
@@ -82,18 +81,8 @@ impl<C: Cells> Writes<C> {
         ensures count { result.count ≡ 0 }
         ensures len_fits { length (C.items holder) < 2 ^ 64 }
     {
-        Writes::resumed(holder, 0)
-    }
-
-    /// A counter around `holder` that starts at `count`.
-    #[inline(always)]
-    pub(crate) fn resumed(holder: C, count: u128) -> Self
-        ensures holder { result.holder ≡ holder }
-        ensures count { result.count ≡ count }
-        ensures len_fits { length (C.items holder) < 2 ^ 64 }
-    {
         len_fits(holder.len());
-        Writes { holder, count }
+        Writes { holder, count: 0 }
     }
 
     /// The number of cells.

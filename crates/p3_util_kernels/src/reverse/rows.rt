@@ -1,143 +1,71 @@
-//! Bit reversal of the order of rows of any width. Each pair of rows whose indices are each other's
-//! reverse is exchanged once. Single items are reversed as rows of one item.
+//! The short path of bit reversal, for rows of any width. Single items are rows of one item, and
+//! chunks are rows too.
 //!
-//! There are 2^k rows, and the index of a row has three parts. The high part has `half = k / 2`
-//! digits, and `x` stands for its reverse. The part `middle` is one digit if k is odd, and empty
-//! otherwise. The low part `y` has `half` digits. In the reversed index, `x` and `y` have changed
-//! places:
-//!
-//! ```text
-//!     index      rev(x)  middle  y         k = 5, x = 01, middle = 1, y = 11:   10 1 11
-//!     reversed   rev(y)  middle  x                                              11 1 01
-//! ```
-//!
-//! So for each middle digit and all `x < y`, the row of `x` and `y` is exchanged with the row of
-//! `y` and `x`. This reaches each pair of rows exactly once, so no loop has to test an index. All
+//! Each pair of rows whose indices are each other's reverse is swapped once, item by item. All
 //! other rows stay where they are.
-//!
-//! The rows with the same middle digit form a [`Grid`]: the row of `x` and `y` is the place of row
-//! `x` and column `y`, and is exchanged with the place of row `y` and column `x`.
 
-ghost use Rattle.std.specs.Prelude.{◌≡◌, ℕ, ◌+◌, ◌-◌, ◌*◌, ◌/◌, ◌^◌, ◌<◌, ◌≤◌, length};
-ghost use Rattle.p3_util_kernels.specs.Grid.{grid_of_rows};
-ghost use Rattle.p3_util_kernels.specs.Logarithms.{clog};
-ghost use Rattle.p3_util_kernels.specs.Reversal.{FitsRows, IsReversal, IsReversible, IsRowReversal};
-ghost use Rattle.p3_util_kernels.specs.SwapCounts.{row_swaps, short_swaps};
+ghost use Rattle.std.specs.Prelude.{◌≡◌, ◌+◌, ◌*◌, ◌^◌, ◌<◌, ◌≤◌, length};
+ghost use Rattle.p3_util_kernels.specs.Digits.{rev};
+ghost use Rattle.p3_util_kernels.specs.Exchanged.{RunsExchanged};
+ghost use Rattle.p3_util_kernels.specs.Reversal.{IsRowReversal};
+ghost use Rattle.p3_util_kernels.specs.Steps.{counted};
+ghost use Rattle.p3_util_kernels.specs.SwapCounts.{short_swaps};
 
-use crate::bits::{log2_strict_usize, pow2};
-use crate::grid::{Grid, exchange_square};
-use crate::places::bulk::Tiled;
+use crate::bits::pow2;
+use crate::places::{Places, Swaps};
 
-/// Rows of `width` items each, whose indices have `digits` binary digits: there are `2^digits`
-/// rows, or none.
-#[derive(Clone, Copy)]
+/// Entry `i` has the six binary digits of `i` in reversed order.
 #[doc(hidden)]
-pub struct RowDigits {
-    pub width: usize,
-    pub digits: usize,
+pub const REVERSED_SIX: [u8; 64] = [
+    0, 32, 16, 48, 8, 40, 24, 56, 4, 36, 20, 52, 12, 44, 28, 60, 2, 34, 18, 50, 10, 42, 26, 58, 6,
+    38, 22, 54, 14, 46, 30, 62, 1, 33, 17, 49, 9, 41, 25, 57, 5, 37, 21, 53, 13, 45, 29, 61, 3, 35,
+    19, 51, 11, 43, 27, 59, 7, 39, 23, 55, 15, 47, 31, 63,
+];
+
+/// Reverses the `digits` binary digits of `x`. Up to six digits are read from the table. If there
+/// are more, the table has the six lowest, and another call reverses the others.
+fn reversed_index(x: usize, digits: usize) -> usize
+    requires few { digits < 64 }
+    requires below { x < 2 ^ digits }
+    ensures { result ≡ rev digits x }
+{
+    if digits <= 6 {
+        return usize::from(REVERSED_SIX[x]) >> (6 - digits);
+    }
+    let high = reversed_index(x / 64, digits - 6);
+    (usize::from(REVERSED_SIX[x % 64]) << (digits - 6)) + high
 }
 
-impl RowDigits {
-    /// The rows of `width` items of a list of `len` items.
-    #[inline(always)]
-    #[doc(hidden)]
-    pub fn of(len: usize, width: usize) -> Self
-        requires { FitsRows len width }
-        ensures width { result.width ≡ width }
-        ensures digits { result.digits ≡ clog (len / width) }
-        ensures few { result.digits < 64 }
-    {
-        if len == 0 {
-            return RowDigits { width, digits: 0 };
+/// Swaps the `len` items from place `i` on with those from place `j` on, in order.
+fn swap_runs<S: Places>(m: &mut Swaps<S>, i: usize, j: usize, len: usize)
+    requires apart { i + len ≤ j }
+    requires within { j + len ≤ length (S.items m.old.holder) }
+    requires len_fits { length (S.items m.old.holder) < 2 ^ 64 }
+    requires count_fits { m.old.count < 2 ^ 128 }
+    ensures exchanged { RunsExchanged i j len (S.items m.old.holder) (S.items m.new.holder) }
+    ensures count { m.new.count ≡ counted m.old.count len }
+    ensures holder { S.same_holder len m.old.holder m.new.holder }
+{
+    for t in 0..len {
+        m.swap(i + t, j + t);
+    }
+}
+
+/// Reverses the order of `2^digits` rows of `width` items by index bits.
+pub(crate) fn swap_rows<S: Places>(m: &mut Swaps<S>, width: usize, digits: usize)
+    requires few { digits < 64 }
+    requires rows { length (S.items m.old.holder) ≡ width * 2 ^ digits }
+    requires len_fits { length (S.items m.old.holder) < 2 ^ 64 }
+    requires count_fits { m.old.count < 2 ^ 128 }
+    requires wide { 0 < width }
+    ensures order { IsRowReversal width (S.items m.old.holder) (S.items m.new.holder) }
+    ensures count { m.new.count ≡ counted m.old.count (width * short_swaps digits) }
+    ensures holder { S.same_holder (width * short_swaps digits) m.old.holder m.new.holder }
+{
+    for r in 0..pow2(digits) {
+        let partner = reversed_index(r, digits);
+        if r < partner {
+            swap_runs(m, r * width, partner * width, width);
         }
-        let digits = log2_strict_usize(len / width);
-        RowDigits { width, digits }
     }
-
-    /// The grid of the rows whose indices have the middle part `middle`.
-    #[inline(always)]
-    #[doc(hidden)]
-    pub fn grid(self, middle: usize) -> Grid
-        requires few { self.digits < 64 }
-        requires middle { middle < 2 ^ (self.digits - self.digits / 2 - self.digits / 2) }
-        ensures { let half = self.digits / 2 in
-            result ≡ grid_of_rows half (self.digits - half) self.width middle }
-    {
-        let half = self.digits / 2;
-        Grid {
-            width: self.width,
-            base: middle * pow2(half),
-            stride: pow2(self.digits - half),
-            digits: half,
-            reversed: true,
-        }
-    }
-}
-
-/// The kernel of [`reverse_index_bits_short`](crate::reverse::reverse_index_bits_short).
-#[inline(always)]
-#[doc(hidden)]
-pub fn reverse_short<M: Tiled>(m: M) -> M
-    requires { IsReversible (length (M.items m)) }
-    ensures order { IsReversal (M.items m) (M.items result) }
-    ensures holder { M.same_holder (short_swaps (clog (length (M.items m)))) m result }
-{
-    let rows = RowDigits::of(m.len(), 1);
-    reverse_rows(m, rows)
-}
-
-/// The kernel of [`reverse_row_index_bits_on`](crate::reverse::reverse_row_index_bits_on).
-#[inline(always)]
-#[doc(hidden)]
-pub fn reverse_rows<M: Tiled>(m: M, rows: RowDigits) -> M
-    requires fits { FitsRows (length (M.items m)) rows.width }
-    requires digits { rows.digits ≡ clog (length (M.items m) / rows.width) }
-    requires len_fits { length (M.items m) < 2 ^ 64 }
-    ensures order { IsRowReversal rows.width (M.items m) (M.items result) }
-    ensures holder { M.same_holder (row_swaps (length (M.items m)) rows.width) m result }
-{
-    // In the cases with a fixed number of digits, the compiler unrolls the exchanges of all pairs.
-    // Each further case would be one more copy of these exchanges. With too many copies, Rattle's
-    // compiler no longer inlines this function.
-    match rows.digits {
-        2 => exchange_pairs(m, RowDigits { digits: 2, ..rows }, true),
-        3 => exchange_pairs(m, RowDigits { digits: 3, ..rows }, true),
-        4 => exchange_pairs(m, RowDigits { digits: 4, ..rows }, true),
-        5 => exchange_pairs(m, RowDigits { digits: 5, ..rows }, true),
-        _ => exchange_pairs_outlined(m, rows),
-    }
-}
-
-/// Exchanges all pairs of rows whose indices are each other's reverse. In each grid this is done by
-/// quadrants or row by row.
-#[inline(always)]
-fn exchange_pairs<M: Tiled>(m: M, rows: RowDigits, row_by_row: bool) -> M
-    requires fits { FitsRows (length (M.items m)) rows.width }
-    requires digits { rows.digits ≡ clog (length (M.items m) / rows.width) }
-    requires len_fits { length (M.items m) < 2 ^ 64 }
-    ensures order { IsRowReversal rows.width (M.items m) (M.items result) }
-    ensures holder { M.same_holder (rows.width * short_swaps rows.digits) m result }
-{
-    if rows.digits < 2 {
-        return m;
-    }
-    let half = rows.digits / 2;
-    let mut m = m;
-    for middle in 0..pow2(rows.digits - half - half) {
-        m = exchange_square(m, rows.grid(middle), row_by_row);
-    }
-    m
-}
-
-/// Does the same as [`exchange_pairs`], by quadrants, in a function of its own. So a call with few
-/// rows needs no stack frame, which would take longer than its exchanges.
-#[inline(never)]
-pub(crate) fn exchange_pairs_outlined<M: Tiled>(m: M, rows: RowDigits) -> M
-    requires fits { FitsRows (length (M.items m)) rows.width }
-    requires digits { rows.digits ≡ clog (length (M.items m) / rows.width) }
-    requires len_fits { length (M.items m) < 2 ^ 64 }
-    ensures order { IsRowReversal rows.width (M.items m) (M.items result) }
-    ensures holder { M.same_holder (rows.width * short_swaps rows.digits) m result }
-{
-    exchange_pairs(m, rows, false)
 }

@@ -1,9 +1,5 @@
 //! The transpose of a block of 4 by 4 items in two stages. Each stage exchanges one bit of the row
-//! number with the same bit of the column number.
-//!
-//! These functions are for callers who have such a block. No kernel uses them: to make an array of
-//! 16 items, a proof has to show that their bytes fit in memory, which it cannot show for the items
-//! of an arbitrary source.
+//! number with the same bit of the column number. Each tile of a transpose is put in such blocks.
 
 ghost use Rattle.std.specs.Prelude.{[], ◌∷◌, ℕ, ◌≡◌, ◌+◌, ◌*◌, ◌<◌};
 ghost use Rattle.p3_util_kernels.specs.Stages.{IsBlockTransposed, IsStageOne, IsStageTwo, item_at};

@@ -15,7 +15,7 @@ use p3_util::transpose::{
     Region, fits_matrix, fits_square, transpose, transpose_on, transpose_region_on,
     transpose_source_on, transpose_source_split_on, transpose_split_on, transpose_square_on,
 };
-use p3_util_callers::uses::levels_of;
+use p3_util_examples::uses::levels_of;
 use std::process::Abort;
 
 /// A call that reorders a list by exchanges.

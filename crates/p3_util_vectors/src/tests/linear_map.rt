@@ -4,7 +4,7 @@ use crate::keys::Spelling;
 use crate::tests::checks::{equal, found, same};
 use Call::{Get, GetOrInsert, Insert, Write};
 use p3_util::linear_map::LinearMap;
-use p3_util_callers::linear_map::{Call, run_call};
+use p3_util_examples::linear_map::{Call, run_call};
 use std::alloc::Global;
 use std::cell::Cell;
 use std::fmt::Debug;

@@ -4,6 +4,8 @@
 use crate::noted::Noted;
 use crate::tests::calls::{Call, Put, count_swaps, count_writes};
 use crate::tests::checks::{Shape, equal, found, numbers, same};
+use crate::tests::reversals::reversed;
+use p3_util::transpose::Region;
 use std::alloc::Global;
 use std::process::Abort;
 
@@ -27,17 +29,67 @@ fn exchanges(rt: &impl Abort, alloc: Global, call: Call, len: usize) -> Vec<(usi
     exchanges
 }
 
-/// 28 exchanges within the upper left quadrant, 64 across the diagonal, 28 within the lower right
-/// quadrant.
+/// The row of `len` items in which a place is, and its place in the row.
+fn row_and_place(place: usize, len: usize) -> (usize, usize) {
+    let row = place.checked_div(len).unwrap_or(0);
+    (row, place.checked_rem(len).unwrap_or(0))
+}
+
+/// Reversals on the short path: the digits of the number of rows, and the items of a row.
+const SHORT: [(Call, usize, usize); 4] = [
+    (Call::Reversal, 6, 1),
+    (Call::Reversal, 7, 1),
+    (Call::Reversal, 13, 1),
+    (Call::Rows(3), 7, 3),
+];
+
+/// Row after row is exchanged, item by item, with the row whose number has the digits in reversed
+/// order, if that row comes later.
+#[test]
+fn pairs_of_rows_in_order(rt: HostRuntime) {
+    for &(call, digits, width) in &SHORT {
+        let rows = 1usize << (digits % 64);
+        let pairs = exchanges(&rt, rt.alloc(), call, rows.saturating_mul(width));
+        let mut pairs = pairs.iter();
+        for place in 0..rows.saturating_mul(width) {
+            let (row, item) = row_and_place(place, width);
+            let other = reversed(row, digits as u32);
+            if row < other {
+                let second = other.wrapping_mul(width).wrapping_add(item);
+                same(&rt, place, &pairs.next(), &Some(&(place, second)));
+            }
+        }
+        equal(&rt, &pairs.next(), &None);
+    }
+}
+
+/// The logarithms of the sides of squares, and how many exchanges there are before the second half
+/// of the columns across the diagonal, before the lower right quadrant, and in all.
+const QUADRANTS: [(usize, [usize; 3]); 2] = [(4, [60, 92, 120]), (7, [4064, 6112, 8128])];
+
+/// The sides of upper left corners of a square, and how many exchanges there are in them.
+const CORNERS: [(usize, usize); 4] = [(8, 28), (16, 120), (32, 496), (64, 2016)];
+
+/// The exchanges within the upper left quadrant come first, then those across the diagonal, then
+/// those within the lower right quadrant. Of 16 rows, these are 28, 64 and 28.
 #[test]
 fn quadrants_in_order(rt: HostRuntime) {
-    let pairs = exchanges(&rt, rt.alloc(), Call::Square(0, 4, 4), 256);
-    equal(&rt, &pairs.len(), &120);
-    for (k, (first, second)) in pairs.iter().enumerate() {
-        let (row, column) = (*first / 16, *first % 16);
-        same(&rt, k, second, &(column * 16 + row));
-        let quadrants = (row < 8 || column < 8, row < 8 && column < 8);
-        same(&rt, k, &quadrants, &(k < 92, k < 28));
+    for &(log_size, [middle, across, all]) in &QUADRANTS {
+        let side = 1usize << (log_size % 64);
+        let half = side / 2;
+        let call = Call::Square(0, log_size, log_size);
+        let pairs = exchanges(&rt, rt.alloc(), call, side.saturating_mul(side));
+        equal(&rt, &pairs.len(), &all);
+        for (k, (first, second)) in pairs.iter().enumerate() {
+            let (row, column) = row_and_place(*first, side);
+            same(&rt, k, second, &column.wrapping_mul(side).wrapping_add(row));
+            let (least, most) = (row.min(column), row.max(column));
+            for &(corner, swaps) in &CORNERS {
+                same(&rt, k, &(most < corner), &(k < swaps));
+            }
+            let left = least < half && most < half + half / 2;
+            same(&rt, k, &(left, least < half), &(k < middle, k < across));
+        }
     }
 }
 
@@ -75,12 +127,12 @@ fn puts(rt: &impl Abort, alloc: Global, call: Put, shape: Shape) -> Vec<usize> {
 }
 
 /// Asserts that in each group of `len` consecutive writes, all are in one part of a matrix of
-/// `height` rows that is cut into parts of `side` columns and rows.
+/// `height` rows that is cut into parts of `side` columns and rows from the first write on.
 fn check_parts(rt: &impl Abort, puts: &[usize], height: usize, len: usize, side: usize) {
+    let first = puts.first().copied().unwrap_or(0);
     let mut part = (None, None);
     for (k, place) in puts.iter().enumerate() {
-        let x = place.checked_div(height).unwrap_or(0);
-        let y = place.checked_rem(height).unwrap_or(0);
+        let (x, y) = row_and_place(place.wrapping_sub(first), height);
         let here = (x.checked_div(side), y.checked_div(side));
         if k.checked_rem(len) == Some(0) {
             part = here;
@@ -89,17 +141,89 @@ fn check_parts(rt: &impl Abort, puts: &[usize], height: usize, len: usize, side:
     }
 }
 
-#[test]
-fn blocks_of_tiles_in_order(rt: HostRuntime) {
-    let shape = Shape::new(32, 32);
-    let puts = puts(&rt, rt.alloc(), Put::On, shape);
-    check_parts(&rt, &puts, 32, 16, 4);
-    check_parts(&rt, &puts, 32, 256, 16);
+/// The rows and the columns of a region, each as a first one and the one after the last.
+type Part = ([usize; 2], [usize; 2]);
+
+/// Asserts that a transpose puts whole tiles by its first writes, as many as `tiled`, and then the
+/// parts `plain`, each column after column. A tile has 16 columns and rows and is put in blocks of
+/// 4 columns and rows.
+fn check_tiled(rt: &impl Abort, puts: &[usize], height: usize, tiled: usize, plain: &[Part]) {
+    let (tiles, others) = puts.split_at(tiled.min(puts.len()));
+    check_parts(rt, tiles, height, 16, 4);
+    check_parts(rt, tiles, height, 256, 16);
+    let mut others = others.iter().copied();
+    for &([top, bottom], [left, right]) in plain {
+        for x in left..right {
+            for y in top..bottom {
+                let place = x.wrapping_mul(height).wrapping_add(y);
+                same(rt, place, &others.next(), &Some(place));
+            }
+        }
+    }
+    equal(rt, &others.next(), &None);
 }
 
-/// The first 16384 writes are all in one part of 128 columns and rows, and in each group of 16 of
-/// them every write is right below the one before. The third part is below this one; without a
-/// split it would be to the right of the second. The last part has 65 columns.
+/// Widths, heights, how many writes put whole tiles, and the parts that come after them.
+const TILED: [(usize, usize, usize, &[Part]); 8] = [
+    (255, 1, 0, &[([0, 1], [0, 255])]),
+    (15, 17, 0, &[([0, 17], [0, 15])]),
+    (
+        17,
+        19,
+        256,
+        &[
+            ([0, 16], [16, 17]),
+            ([16, 19], [0, 16]),
+            ([16, 19], [16, 17]),
+        ],
+    ),
+    (32, 32, 1024, &[]),
+    (48, 32, 1536, &[]),
+    (64, 64, 4096, &[]),
+    (
+        1000,
+        120,
+        111_104,
+        &[
+            ([0, 112], [992, 1000]),
+            ([112, 120], [0, 992]),
+            ([112, 120], [992, 1000]),
+        ],
+    ),
+    (1024, 1024, 1_048_576, &[]),
+];
+
+/// After the whole tiles come the right edge, the bottom edge and the corner. A matrix of at most
+/// 255 items is one part.
+#[test]
+fn tiles_and_edges_in_order(rt: HostRuntime) {
+    for &(width, height, tiled, plain) in &TILED {
+        let puts = puts(&rt, rt.alloc(), Put::On, Shape::new(width, height));
+        check_tiled(&rt, &puts, height, tiled, plain);
+    }
+}
+
+/// In a matrix of 40 rows of 50 items, a region of one tile, 5 columns beside it and 3 rows below.
+#[test]
+fn tiles_of_a_region_in_order(rt: HostRuntime) {
+    let region = Region {
+        row_start: 7,
+        row_end: 26,
+        col_start: 2,
+        col_end: 23,
+    };
+    let puts = puts(&rt, rt.alloc(), Put::Region(region), Shape::new(50, 40));
+    let plain = [
+        ([7, 23], [18, 23]),
+        ([23, 26], [2, 18]),
+        ([23, 26], [18, 23]),
+    ];
+    check_tiled(&rt, &puts, 40, 256, &plain);
+}
+
+/// The first 16384 writes are all in one part of 128 columns and rows. The third part is below this
+/// one; without a split it would be to the right of the second. The last part has 65 columns. In
+/// each group of 16 writes, every write is right below the one before.
 #[test]
 fn parts_of_a_split_in_order(rt: HostRuntime) {
     let shape = Shape::new(1025, 1024);
@@ -108,9 +232,9 @@ fn parts_of_a_split_in_order(rt: HostRuntime) {
     let mut next = 0;
     for (k, place) in puts.iter().enumerate() {
         let (x, y) = (*place / 1024, *place % 1024);
+        same(&rt, k, &(k % 16 == 0 || *place == next), &true);
         if k < 16384 {
             same(&rt, k, &(x < 128 && y < 128), &true);
-            same(&rt, k, &(k % 16 == 0 || *place == next), &true);
         }
         if k / 16384 == 2 {
             same(&rt, k, &(x < 128 && y / 128 == 1), &true);
@@ -122,21 +246,13 @@ fn parts_of_a_split_in_order(rt: HostRuntime) {
     }
 }
 
-/// Of 129 rows of 3 items, the first 64 are put before the others, column after column. Without a
-/// split, the first 128 would be.
+/// Of 129 rows of 3 items, the first 64 are put before the others, and the last row is the corner
+/// of the second half. Without a split, the first 128 rows would be one part.
 #[test]
 fn halves_of_a_split_in_order(rt: HostRuntime) {
-    let shape = Shape::new(3, 129);
+    let plain = [([0, 64], [0, 3]), ([64, 128], [0, 3]), ([128, 129], [0, 3])];
     for call in [Put::Split(64), Put::SourceSplit(64)] {
-        let puts = puts(&rt, rt.alloc(), call, shape);
-        equal(&rt, &puts.len(), &387);
-        for (k, place) in puts.iter().enumerate() {
-            let wanted = if k < 192 {
-                (k / 64, k % 64)
-            } else {
-                ((k - 192) / 65, 64 + (k - 192) % 65)
-            };
-            same(&rt, k, &(*place / 129, *place % 129), &wanted);
-        }
+        let puts = puts(&rt, rt.alloc(), call, Shape::new(3, 129));
+        check_tiled(&rt, &puts, 129, 0, &plain);
     }
 }

@@ -8,7 +8,7 @@ use std::cell::Cell;
 use std::process::Abort;
 
 /// `place` with its `digits` low binary digits in reversed order, and with no others.
-fn reversed(place: usize, digits: u32) -> usize {
+pub(crate) fn reversed(place: usize, digits: u32) -> usize {
     let (mut rest, mut answer) = (place, 0usize);
     for _ in 0..digits {
         answer = answer.wrapping_mul(2).wrapping_add(rest % 2);

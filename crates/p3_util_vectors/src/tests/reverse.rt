@@ -6,6 +6,7 @@ use crate::tests::checks::{Shape, check_places, check_transposed, copied, equal,
 use crate::tests::items::{Item, items_of, numbered};
 use crate::tests::oracle::reversals::REVERSALS;
 use crate::tests::oracle::{hash, items};
+use p3_util::laws::least_runs;
 use p3_util::places::{SliceCells, SlicePlaces, Swaps, Writes};
 use p3_util::reverse::fits_rows;
 use std::alloc::Global;
@@ -58,6 +59,15 @@ fn check_example<T: Item>(
     swaps
 }
 
+/// The width of the rows that a call reverses, if the same call is there for a slice.
+fn row_width_of(call: Call) -> Option<usize> {
+    match call {
+        Call::Reversal => Some(1),
+        Call::Rows(row_width) => Some(row_width),
+        _ => None,
+    }
+}
+
 /// Lengths, widths of rows, and whether a list of that length consists of such rows and their
 /// number is zero or a power of two.
 const LENGTHS: [(usize, usize, bool); 10] = [
@@ -87,14 +97,11 @@ fn worked_examples(rt: HostRuntime) {
             check_example::<[u64; 4]>(&rt, rt.alloc(), *call, list, wanted),
         ];
         same(&rt, row, &counts, &[*swaps; 4]);
-        let row_width = match call {
-            Call::Reversal => 1,
-            Call::Rows(row_width) => *row_width,
-            _ => continue,
-        };
-        let mut got = copied(&rt, rt.alloc(), list);
-        reverse_slice(&rt, &mut got, row_width);
-        same(&rt, row, &got.as_slice(), wanted);
+        if let Some(row_width) = row_width_of(*call) {
+            let mut got = copied(&rt, rt.alloc(), list);
+            reverse_slice(&rt, &mut got, row_width);
+            same(&rt, row, &got.as_slice(), wanted);
+        }
     }
 }
 
@@ -124,13 +131,17 @@ const NUMBERED: [(Call, usize, u128, &[(usize, u64)]); 12] = [
     (Call::Square(0, 0, 0), 1, 0, &[(0, 0)]),
 ];
 
-/// Runs the rows with items of one type.
+/// Runs the rows with items of one type. The call on a slice puts the items back.
 fn check_numbered<T: Item>(rt: &impl Abort, alloc: Global) {
     for (row, (call, len, swaps, places)) in NUMBERED.iter().enumerate() {
         let mut list = found(rt, numbered::<T>(alloc, *len));
         let count = count_swaps(rt, &mut SlicePlaces::new(&mut list), *call);
         same(rt, row, &count, swaps);
         check_places(rt, &list, places);
+        if let Some(row_width) = row_width_of(*call) {
+            reverse_slice(rt, &mut list, row_width);
+            check_transposed(rt, &list, Shape::new(1, *len));
+        }
     }
 }
 
@@ -162,9 +173,10 @@ fn check_squares<T: Item>(rt: &impl Abort, alloc: Global) {
     }
 }
 
-/// With every type of items.
+/// With every type of items. No other exchanges transpose a square in fewer steps.
 #[test]
 fn whole_squares(rt: HostRuntime) {
+    least_runs();
     check_squares::<u8>(&rt, rt.alloc());
     check_squares::<u32>(&rt, rt.alloc());
     check_squares::<u64>(&rt, rt.alloc());

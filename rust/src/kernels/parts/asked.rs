@@ -1,4 +1,4 @@
-// rust/erase writes this file from crates/p3_util_calls/src/parts/asked.rt. Make changes there.
+// rust/erase writes this file from crates/p3_util_dispatch/src/parts/asked.rt. Make changes there.
 //! How finely a reversal is cut if a caller asks for some number of parts.
 
 /// A list of more items is cut, whatever the size of its items.

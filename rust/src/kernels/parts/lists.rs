@@ -1,4 +1,4 @@
-// rust/erase writes this file from crates/p3_util_calls/src/parts/lists.rt. Make changes there.
+// rust/erase writes this file from crates/p3_util_dispatch/src/parts/lists.rt. Make changes there.
 //! The list of a call, together with the parts that are left of it.
 
 use crate::kernels::parts::numbers::{Part, PartsLeft, Plan};

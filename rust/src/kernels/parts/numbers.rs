@@ -1,4 +1,4 @@
-// rust/erase writes this file from crates/p3_util_calls/src/parts/numbers.rt. Make changes there.
+// rust/erase writes this file from crates/p3_util_dispatch/src/parts/numbers.rt. Make changes there.
 //! The parts of a call, each of which is handed out once.
 
 /// How a call is cut into parts. They have the numbers below [`count`](Plan::count).

@@ -1,9 +1,11 @@
-// rust/erase writes this file from crates/p3_util_calls/src/parts/reversal.rt. Make changes there.
+// rust/erase writes this file from crates/p3_util_dispatch/src/parts/reversal.rt. Make changes there.
 //! The parts that a reversal is cut into.
 
 use crate::kernels::parts::RowPairs;
 use crate::kernels::parts::numbers::{Part, Plan};
-use crate::kernels::kernel::{Tiled, exchange_quadrants, exchange_region, pow2};
+use crate::kernels::bulk::Tiled;
+use crate::kernels::grid::{exchange_quadrants, exchange_region};
+use crate::kernels::bits::pow2;
 
 /// How the reversal of rows is cut.
 #[derive(Clone, Copy)]

@@ -1,11 +1,11 @@
-// rust/erase writes this file from crates/p3_util_calls/src/parts/transpose.rt. Make changes there.
+// rust/erase writes this file from crates/p3_util_dispatch/src/parts/transpose.rt. Make changes there.
 //! The regions that the transpose of a matrix is cut into.
 
 use crate::kernels::parts::Cut;
 use crate::kernels::parts::numbers::{Part, Plan};
-use crate::kernels::kernel::{Matrix, UNIT};
+use crate::kernels::strips::UNIT;
 use crate::kernels::places::Source;
-use crate::kernels::transpose::Region;
+use crate::kernels::transpose::{Matrix, Region};
 
 /// The transpose of a matrix of `height` rows of `width` items, cut into regions of neighbouring
 /// rows or of neighbouring columns.

@@ -2,9 +2,8 @@
 //! Counters: holders around another holder, which count its exchanges or its puts.
 //!
 //! A counter is itself a holder, as [`places`](crate::kernels::places) explains. The count rises by 1 with
-//! each step that the holder inside makes. The fields are visible in the whole crate, because
-//! the `_on` calls lend the holder inside to a kernel. The kernel itself cannot reach the fields of
-//! a counter, since it is generic over its holder.
+//! each step that the holder inside makes. No other module can reach the fields of a counter. So
+//! whoever has one can change the list inside only by steps that are counted.
 
 #[cfg(target_pointer_width = "32")]
 use crate::width::Index as usize;
@@ -13,21 +12,15 @@ use crate::kernels::places::{Cells, Places, len_fits};
 /// A counter around a holder of places. It counts exchanges. The count stops at `u128::MAX`.
 #[derive(Debug)]
 pub struct Swaps<S> {
-    pub(crate) holder: S,
-    pub(crate) count: u128,
+    holder: S,
+    count: u128,
 }
 
 impl<S: Places> Swaps<S> {
     /// A counter around `holder` that starts at 0.
     pub fn new(holder: S) -> Self {
-        Swaps::resumed(holder, 0)
-    }
-
-    /// A counter around `holder` that starts at `count`.
-    #[inline(always)]
-    pub(crate) fn resumed(holder: S, count: u128) -> Self {
         len_fits(holder.len());
-        Swaps { holder, count }
+        Swaps { holder, count: 0 }
     }
 
     /// The number of places.
@@ -58,21 +51,15 @@ impl<S: Places> Swaps<S> {
 /// A counter around a holder of cells. It counts puts. The count stops at `u128::MAX`.
 #[derive(Debug)]
 pub struct Writes<C> {
-    pub(crate) holder: C,
-    pub(crate) count: u128,
+    holder: C,
+    count: u128,
 }
 
 impl<C: Cells> Writes<C> {
     /// A counter around `holder` that starts at 0.
     pub fn new(holder: C) -> Self {
-        Writes::resumed(holder, 0)
-    }
-
-    /// A counter around `holder` that starts at `count`.
-    #[inline(always)]
-    pub(crate) fn resumed(holder: C, count: u128) -> Self {
         len_fits(holder.len());
-        Writes { holder, count }
+        Writes { holder, count: 0 }
     }
 
     /// The number of cells.

@@ -1,9 +1,9 @@
-// rust/erase writes this file from crates/p3_util_registers/src/registers/blocks.rt. Make changes there.
+// rust/erase writes this file from crates/p3_util_fast/src/registers/blocks.rt. Make changes there.
 //! How a holder puts a block: by whole cache lines, by squares, or item by item.
 
+use crate::kernels::bulk::{Ahead, Block, Blocked};
 use crate::kernels::registers::line_blocks::put_by_lines;
 use crate::kernels::registers::{Loads, Register, Runs, put_by_squares};
-use crate::kernels::kernel::{Ahead, Block, Blocked};
 use crate::kernels::places::Cells;
 
 /// Cells into which runs are put, too.

@@ -1,9 +1,9 @@
-// rust/erase writes this file from crates/p3_util_registers/src/registers/line_blocks.rt. Make changes there.
+// rust/erase writes this file from crates/p3_util_fast/src/registers/line_blocks.rt. Make changes there.
 //! Blocks whose columns are whole cache lines: each column is stored from its first cell to its last, one right
 //! after the other.
 
+use crate::kernels::bulk::Block;
 use crate::kernels::registers::{Four, Loads, Register, Runs, load, load_two, next_stage, starts};
-use crate::kernels::kernel::Block;
 
 /// Reads 8 rows, from place `from` on, and transposes them. The registers hold the columns, of 8 items
 /// each, one after another.

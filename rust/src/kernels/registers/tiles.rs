@@ -1,8 +1,8 @@
-// rust/erase writes this file from crates/p3_util_registers/src/registers/tiles.rt. Make changes there.
+// rust/erase writes this file from crates/p3_util_fast/src/registers/tiles.rt. Make changes there.
 //! How a holder exchanges two tiles, or transposes one: in registers, or by single exchanges.
 
+use crate::kernels::bulk::Tiled;
 use crate::kernels::registers::{Register, Runs, exchange_tiles, turn_tile};
-use crate::kernels::kernel::Tiled;
 use crate::kernels::places::Places;
 
 /// Places of which tiles are exchanged and transposed by runs, too.

@@ -1,119 +1,45 @@
 // rust/erase writes this file from crates/p3_util_kernels/src/reverse/rows.rt. Make changes there.
-//! Bit reversal of the order of rows of any width. Each pair of rows whose indices are each other's
-//! reverse is exchanged once. Single items are reversed as rows of one item.
+//! The short path of bit reversal, for rows of any width. Single items are rows of one item, and
+//! chunks are rows too.
 //!
-//! There are 2^k rows, and the index of a row has three parts. The high part has `half = k / 2`
-//! digits, and `x` stands for its reverse. The part `middle` is one digit if k is odd, and empty
-//! otherwise. The low part `y` has `half` digits. In the reversed index, `x` and `y` have changed
-//! places:
-//!
-//! ```text
-//!     index      rev(x)  middle  y         k = 5, x = 01, middle = 1, y = 11:   10 1 11
-//!     reversed   rev(y)  middle  x                                              11 1 01
-//! ```
-//!
-//! So for each middle digit and all `x < y`, the row of `x` and `y` is exchanged with the row of
-//! `y` and `x`. This reaches each pair of rows exactly once, so no loop has to test an index. All
+//! Each pair of rows whose indices are each other's reverse is swapped once, item by item. All
 //! other rows stay where they are.
-//!
-//! The rows with the same middle digit form a [`Grid`]: the row of `x` and `y` is the place of row
-//! `x` and column `y`, and is exchanged with the place of row `y` and column `x`.
 
 #[cfg(target_pointer_width = "32")]
 use crate::width::Index as usize;
-use crate::kernels::bits::{log2_strict_usize, pow2};
-use crate::kernels::grid::{Grid, exchange_square};
-use crate::kernels::places::bulk::Tiled;
+use crate::kernels::bits::pow2;
+use crate::kernels::places::{Places, Swaps};
 
-/// Rows of `width` items each, whose indices have `digits` binary digits: there are `2^digits`
-/// rows, or none.
-#[derive(Clone, Copy)]
-pub(crate) struct RowDigits {
-    pub width: usize,
-    pub digits: usize,
+/// Entry `i` has the six binary digits of `i` in reversed order.
+pub(crate) const REVERSED_SIX: [u8; 64] = [
+    0, 32, 16, 48, 8, 40, 24, 56, 4, 36, 20, 52, 12, 44, 28, 60, 2, 34, 18, 50, 10, 42, 26, 58, 6,
+    38, 22, 54, 14, 46, 30, 62, 1, 33, 17, 49, 9, 41, 25, 57, 5, 37, 21, 53, 13, 45, 29, 61, 3, 35,
+    19, 51, 11, 43, 27, 59, 7, 39, 23, 55, 15, 47, 31, 63,
+];
+
+/// Reverses the `digits` binary digits of `x`. Up to six digits are read from the table. If there
+/// are more, the table has the six lowest, and another call reverses the others.
+fn reversed_index(x: usize, digits: usize) -> usize {
+    if digits <= 6 {
+        return usize::from(REVERSED_SIX[x as core::primitive::usize]) >> (6 - digits);
+    }
+    let high = reversed_index(x / 64, digits - 6);
+    (usize::from(REVERSED_SIX[(x % 64) as core::primitive::usize]) << (digits - 6)) + high
 }
 
-impl RowDigits {
-    /// The rows of `width` items of a list of `len` items.
-    #[inline(always)]
-    pub(crate) fn of(len: usize, width: usize) -> Self {
-        if len == 0 {
-            return RowDigits { width, digits: 0 };
-        }
-        let digits = log2_strict_usize(len / width);
-        RowDigits { width, digits }
+/// Swaps the `len` items from place `i` on with those from place `j` on, in order.
+fn swap_runs<S: Places>(m: &mut Swaps<S>, i: usize, j: usize, len: usize) {
+    for t in 0..len {
+        m.swap(i + t, j + t);
     }
+}
 
-    /// The rows of a list of `2^lb_num_chunks` chunks of `2^lb_chunk_size` items. Each chunk is a
-    /// row.
-    #[inline(always)]
-    pub(crate) fn chunks(lb_num_chunks: usize, lb_chunk_size: usize) -> Self {
-        RowDigits {
-            width: pow2(lb_chunk_size),
-            digits: lb_num_chunks,
-        }
-    }
-
-    /// The grid of the rows whose indices have the middle part `middle`.
-    #[inline(always)]
-    pub(crate) fn grid(self, middle: usize) -> Grid {
-        let half = self.digits / 2;
-        Grid {
-            width: self.width,
-            base: middle * pow2(half),
-            stride: pow2(self.digits - half),
-            digits: half,
-            reversed: true,
+/// Reverses the order of `2^digits` rows of `width` items by index bits.
+pub(crate) fn swap_rows<S: Places>(m: &mut Swaps<S>, width: usize, digits: usize) {
+    for r in 0..pow2(digits) {
+        let partner = reversed_index(r, digits);
+        if r < partner {
+            swap_runs(m, r * width, partner * width, width);
         }
     }
-}
-
-/// The kernel of [`reverse_index_bits_short`](crate::kernels::reverse::reverse_index_bits_short).
-#[inline(always)]
-pub(crate) fn reverse_short<M: Tiled>(m: M) -> M {
-    let rows = RowDigits::of(m.len(), 1);
-    reverse_rows(m, rows)
-}
-
-/// The kernel of [`reverse_chunks_on`](crate::kernels::reverse::reverse_chunks_on).
-#[inline(always)]
-pub(crate) fn reverse_chunks<M: Tiled>(m: M, lb_num_chunks: usize, lb_chunk_size: usize) -> M {
-    reverse_rows(m, RowDigits::chunks(lb_num_chunks, lb_chunk_size))
-}
-
-/// The kernel of [`reverse_row_index_bits_on`](crate::kernels::reverse::reverse_row_index_bits_on).
-#[inline(always)]
-pub(crate) fn reverse_rows<M: Tiled>(m: M, rows: RowDigits) -> M {
-    // In the cases with a fixed number of digits, the compiler unrolls the exchanges of all pairs.
-    // Each further case would be one more copy of these exchanges. With too many copies, Rattle's
-    // compiler no longer inlines this function.
-    match rows.digits {
-        2 => exchange_pairs(m, RowDigits { digits: 2, ..rows }, true),
-        3 => exchange_pairs(m, RowDigits { digits: 3, ..rows }, true),
-        4 => exchange_pairs(m, RowDigits { digits: 4, ..rows }, true),
-        5 => exchange_pairs(m, RowDigits { digits: 5, ..rows }, true),
-        _ => exchange_pairs_outlined(m, rows),
-    }
-}
-
-/// Exchanges all pairs of rows whose indices are each other's reverse. In each grid this is done by
-/// quadrants or row by row.
-#[inline(always)]
-fn exchange_pairs<M: Tiled>(m: M, rows: RowDigits, row_by_row: bool) -> M {
-    if rows.digits < 2 {
-        return m;
-    }
-    let half = rows.digits / 2;
-    let mut m = m;
-    for middle in 0..pow2(rows.digits - half - half) {
-        m = exchange_square(m, rows.grid(middle), row_by_row);
-    }
-    m
-}
-
-/// Does the same as [`exchange_pairs`], by quadrants, in a function of its own. So a call with few
-/// rows needs no stack frame, which would take longer than its exchanges.
-#[inline(never)]
-pub(crate) fn exchange_pairs_outlined<M: Tiled>(m: M, rows: RowDigits) -> M {
-    exchange_pairs(m, rows, false)
 }

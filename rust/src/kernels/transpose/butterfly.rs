@@ -1,10 +1,6 @@
 // rust/erase writes this file from crates/p3_util_kernels/src/transpose/butterfly.rt. Make changes there.
 //! The transpose of a block of 4 by 4 items in two stages. Each stage exchanges one bit of the row
-//! number with the same bit of the column number.
-//!
-//! These functions are for callers who have such a block. No kernel uses them: to make an array of
-//! 16 items, a proof has to show that their bytes fit in memory, which it cannot show for the items
-//! of an arbitrary source.
+//! number with the same bit of the column number. Each tile of a transpose is put in such blocks.
 
 /// The transpose of a block: the item in row r and column c of the result comes from row c and
 /// column r.

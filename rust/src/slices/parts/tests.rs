@@ -4,12 +4,13 @@ use std::array::from_fn;
 use std::vec::Vec;
 
 use super::{one_part_reversal, ranges_if_cut, row_reversal, transpose};
-use crate::kernels::kernel::Tiled;
+use crate::kernels::bulk::Tiled;
 use crate::kernels::parts::numbers::{PartsLeft, Plan};
 use crate::kernels::parts::{RowPairs, TransposePlan};
 use crate::kernels::places::{SliceCells, SlicePlaces, SliceSource};
-use crate::kernels::reverse::{RowDigits, reverse_rows};
-use crate::kernels::transpose::{Matrix, Order, PutRegion, Strips};
+use crate::kernels::rows::{RowDigits, reverse_rows};
+use crate::kernels::transpose::Matrix;
+use crate::kernels::ways::{Columns, PutRegion};
 
 /// Into how many ranges a side is cut at most, for a list that is cut.
 fn ranges(asked: usize) -> usize {
@@ -84,14 +85,13 @@ fn puts_alone<const N: usize>() {
         let input: Vec<[u8; N]> = (0..width * height).map(item).collect();
         let blank: Vec<[u8; N]> = (0..width * height).map(|place| item(!place)).collect();
         let source = SliceSource::new(&input);
-        let strips = Strips::by_shape(Matrix::new(source, width, height));
         let plan = TransposePlan::new(width, height, asked, cfg!(not(feature = "checked")));
         for number in 0..plan.count() {
             let (mut output, mut wanted) = (blank.clone(), blank.clone());
             let part = transpose(&input, &mut output, width, height, asked).nth(number);
             part.unwrap().run_near();
             let matrix = Matrix::new(source, width, height);
-            let _ = Order::Leaves(strips).put(SliceCells::new(&mut wanted), matrix, plan.region(number));
+            let _ = Columns.put(SliceCells::new(&mut wanted), matrix, plan.region(number));
             let is_wanted = output.as_flattened() == wanted.as_flattened();
             assert!(is_wanted, "part {number} of {width} by {height}, items of {N} bytes");
         }

@@ -6,7 +6,7 @@ use std::array::from_fn;
 use std::ptr::null_mut;
 
 use super::super::{Bytes, Items, SliceItems, SliceSource, USES_REGISTERS, Vector};
-use crate::kernels::kernel::{Ahead, Block, Tiled};
+use crate::kernels::bulk::{Ahead, Block, Tiled};
 use crate::kernels::places::{Cells, Places, Source};
 use crate::kernels::registers::blocks::SquaresOfCells;
 use crate::kernels::registers::{Pair, Register, Two};

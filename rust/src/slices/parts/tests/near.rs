@@ -1,9 +1,9 @@
 //! Parts of transposes that are put by lines from 1 KiB on. For a user's parts that limit is 32 MiB.
 
 use super::super::TransposePart;
+use crate::kernels::bulk::{Ahead, Block, Blocked};
 use crate::kernels::calls::Output;
 use crate::kernels::choice::Limits;
-use crate::kernels::kernel::{Ahead, Block, Blocked};
 use crate::kernels::lines::Lines;
 use crate::kernels::part::transpose_part;
 use crate::kernels::places::Cells;

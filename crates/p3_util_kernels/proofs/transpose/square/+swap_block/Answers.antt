@@ -1,38 +1,37 @@
-use Rattle.std.proofs.Common.{◌≡◌, ◌+◌, ◌-◌, ◌/◌, arith}
+-- The swaps of the two halves add up to those of the block.
+use Rattle.std.proofs.Common.{◌-◌, arith}
+use Rattle.p3_util_kernels.proofs.BitsLemmas.Pairs.{mul-parts_left, mul-parts_right}
 use Rattle.p3_util_kernels.proofs.TransposeLemmas.Diagonal.{SwapsAcross-rows, SwapsAcross-cols}
-use Rattle.p3_util_kernels.proofs.GridLemmas.Pairs.{mul-parts_left, mul-parts_right}
 use Rattle.p3_util_kernels.proofs.transpose.square.+swap_block.Goals as goal
 
-pub returns-then-rows-cols-clause-swapped : goal.returns-then-rows-cols-clause-swapped
-returns-then-rows-cols-clause-swapped g t c =
-    let half = c.args.rows / 2 in
-    let end : c.args.row + half + (c.args.rows - half) ≡ c.args.row + c.args.rows = omega arith in
-    SwapsAcross-rows c.args.base c.args.stride c.args.row (c.args.row + half) (c.args.row + c.args.rows) c.args.col (c.args.col + c.args.cols) _ _ _ (omega arith) (omega arith)
-    c.swap_block.ensures.swapped
-    (rw end at c.swap_block-then-rows-cols.ensures.swapped)
+pub returns-then-len-clause-swapped : goal.returns-then-len-clause-swapped
+returns-then-len-clause-swapped g t c =
+    SwapsAcross-rows c.args.square.base c.args.square.stride c.args.rows.start c.halves.result.0.end c.args.rows.end c.args.cols.start c.args.cols.end _ _ _ (omega arith) (omega arith)
+    (rw c.halves.ensures.start at c.swap_block.ensures.swapped)
+    (rw (c.halves.ensures.middle, c.halves.ensures.end) at c.swap_block-then-len.ensures.swapped)
 
-pub returns-then-rows-cols-clause-count : goal.returns-then-rows-cols-clause-count
-returns-then-rows-cols-clause-count g t c =
-    let half = c.args.rows / 2 in omega (arith, mul-parts_left half (c.args.rows - half) c.args.rows c.args.cols (omega arith))
+pub returns-then-len-clause-count : goal.returns-then-len-clause-count
+returns-then-len-clause-count g t c =
+    let upper = c.halves.result.0.end - c.halves.result.0.start in
+    let lower = c.halves.result.1.end - c.halves.result.1.start in
+    omega (arith, mul-parts_left upper lower (c.args.rows.end - c.args.rows.start) (c.args.cols.end - c.args.cols.start) (omega arith))
 
-pub returns-else-rows-cols-clause-swapped : goal.returns-else-rows-cols-clause-swapped
-returns-else-rows-cols-clause-swapped g t c =
-    let half = c.args.cols / 2 in
-    let end : c.args.col + half + (c.args.cols - half) ≡ c.args.col + c.args.cols = omega arith in
-    SwapsAcross-cols c.args.base c.args.stride c.args.row (c.args.row + c.args.rows) c.args.col (c.args.col + half) (c.args.col + c.args.cols) _ _ _ (omega arith) (omega arith)
-    c.swap_block-else-rows-cols.ensures.swapped
-    (rw end at c.swap_block-else-rows-cols-2.ensures.swapped)
+pub returns-then-len-clause-holder : goal.returns-then-len-clause-holder
+returns-then-len-clause-holder g t c =
+    g.met.S.Places.same_holder_trans _ _ _ _ _ _ c.swap_block.ensures.holder c.swap_block-then-len.ensures.holder (mul-parts_left _ _ _ _ (omega arith))
 
-pub returns-else-rows-cols-clause-count : goal.returns-else-rows-cols-clause-count
-returns-else-rows-cols-clause-count g t c =
-    let half = c.args.cols / 2 in omega (arith, mul-parts_right half (c.args.cols - half) c.args.cols c.args.rows (omega arith))
+pub returns-else-len-clause-swapped : goal.returns-else-len-clause-swapped
+returns-else-len-clause-swapped g t c =
+    SwapsAcross-cols c.args.square.base c.args.square.stride c.args.rows.start c.args.rows.end c.args.cols.start c.halves-else-len.result.0.end c.args.cols.end _ _ _ (omega arith) (omega arith)
+    (rw c.halves-else-len.ensures.start at c.swap_block-else-len.ensures.swapped)
+    (rw (c.halves-else-len.ensures.middle, c.halves-else-len.ensures.end) at c.swap_block-else-len-2.ensures.swapped)
 
-pub returns-then-rows-cols-clause-holder : goal.returns-then-rows-cols-clause-holder
-returns-then-rows-cols-clause-holder g t c =
-    let half = c.args.rows / 2 in
-    g.met.S.Places.same_holder_trans _ _ _ _ _ _ c.swap_block.ensures.holder c.swap_block-then-rows-cols.ensures.holder (mul-parts_left half (c.args.rows - half) c.args.rows c.args.cols (omega arith))
+pub returns-else-len-clause-count : goal.returns-else-len-clause-count
+returns-else-len-clause-count g t c =
+    let left = c.halves-else-len.result.0.end - c.halves-else-len.result.0.start in
+    let right = c.halves-else-len.result.1.end - c.halves-else-len.result.1.start in
+    omega (arith, mul-parts_right left right (c.args.cols.end - c.args.cols.start) (c.args.rows.end - c.args.rows.start) (omega arith))
 
-pub returns-else-rows-cols-clause-holder : goal.returns-else-rows-cols-clause-holder
-returns-else-rows-cols-clause-holder g t c =
-    let half = c.args.cols / 2 in
-    g.met.S.Places.same_holder_trans _ _ _ _ _ _ c.swap_block-else-rows-cols.ensures.holder c.swap_block-else-rows-cols-2.ensures.holder (mul-parts_right half (c.args.cols - half) c.args.cols c.args.rows (omega arith))
+pub returns-else-len-clause-holder : goal.returns-else-len-clause-holder
+returns-else-len-clause-holder g t c =
+    g.met.S.Places.same_holder_trans _ _ _ _ _ _ c.swap_block-else-len.ensures.holder c.swap_block-else-len-2.ensures.holder (mul-parts_right _ _ _ _ (omega arith))

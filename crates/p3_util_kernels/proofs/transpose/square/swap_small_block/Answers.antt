@@ -5,18 +5,18 @@ use Rattle.p3_util_kernels.proofs.transpose.square.swap_small_block.Goals as goa
 
 pub loop-line-init : goal.loop-line-init
 loop-line-init g c =
-    let none : c.args.rows * (c.args.col - c.args.col) ≡ 0 = let no : c.args.col - c.args.col ≡ 0 = omega arith in rw no (omega arith) in
+    let none : (c.args.rows.end - c.args.rows.start) * (c.args.cols.start - c.args.cols.start) ≡ 0 = let no : c.args.cols.start - c.args.cols.start ≡ 0 = omega arith in rw no (omega arith) in
     record {
-      swapped = SwapsAcross-none c.args.base c.args.stride c.args.row (c.args.row + c.args.rows) c.args.col c.args.col _ (λ a b k. omega arith);
+      swapped = SwapsAcross-none c.args.square.base c.args.square.stride c.args.rows.start c.args.rows.end c.args.cols.start c.args.cols.start _ (λ a b k. omega arith);
       count = rw none (omega (arith, c.requires.count_fits));
       holder = rw none (g.met.S.Places.same_holder_refl _);
     }
 
 pub loop-line-preserved : goal.loop-line-preserved
 loop-line-preserved g c =
-    let more : c.loop-line.line + 1 - c.args.col ≡ c.loop-line.line - c.args.col + 1 = omega arith in
+    let more : c.loop-line.line + 1 - c.args.cols.start ≡ c.loop-line.line - c.args.cols.start + 1 = omega arith in
     record {
-      swapped = SwapsAcross-cols c.args.base c.args.stride c.args.row (c.args.row + c.args.rows) c.args.col c.loop-line.line (c.loop-line.line + 1) _ _ _ (omega arith) (omega arith) c.loop-line.invariant.swapped c.swap_line.ensures.swapped;
+      swapped = SwapsAcross-cols c.args.square.base c.args.square.stride c.args.rows.start c.args.rows.end c.args.cols.start c.loop-line.line (c.loop-line.line + 1) _ _ _ (omega arith) (omega arith) c.loop-line.invariant.swapped c.swap_line.ensures.swapped;
       count = rw more (omega (arith, c.swap_line.ensures.count, c.loop-line.invariant.count));
       holder = rw more (g.met.S.Places.same_holder_trans _ _ _ _ _ _ c.loop-line.invariant.holder c.swap_line.ensures.holder (omega arith));
     }

@@ -22,12 +22,12 @@ loop-k-preserved g c =
     let next : block.col_start + (c.loop-k.k + 1) ≡ col + 1 = omega arith in
     let here = c.loop-k-test.true in
     let to = c.place_in-to.ensures in
-    let read : (t : ℕ) → t < 4 → slice_get c.row_of-column.result t ≡ slice_get (g.R.Source.items c.args.input.now) ((block.row_start + t) * c.args.width + col) =
+    let read : (t : ℕ) → t < 4 → slice_get c.row_of-column.result t ≡ slice_get (g.R.Source.items c.args.matrix.source) ((block.row_start + t) * c.args.matrix.width + col) =
     λ t ht. rw (c.row_of-column.ensures t, c.butterfly_4x4-turned.ensures c.loop-k.k t here ht) (c.read_block.ensures t c.loop-k.k ht here) in
     record {
-      transposed = rw next (region_of_cols (record block { col_end = col + 1 }) col c.args.width c.args.height _ _ _ _ (omega arith) (omega arith)
+      transposed = rw next (region_of_cols (record block { col_end = col + 1 }) col c.args.matrix.width c.args.matrix.height _ _ _ _ (omega arith) (omega arith)
           c.requires.tall c.loop-k.invariant.transposed
-          (region_of_column block c.args.width c.args.height col 4 (g.R.Source.items c.args.input.now) _ _ c.requires.rows c.put_run.ensures.same_length
+          (region_of_column block c.args.matrix.width c.args.matrix.height col 4 (g.R.Source.items c.args.matrix.source) _ _ c.requires.rows c.put_run.ensures.same_length
           (λ t ht. let zero : 0 + t ≡ t = omega arith in rw zero at (rw to at c.put_run.ensures.places t ht) ∙ read t ht) (rw to at c.put_run.ensures.others)));
       holder = g.met.C.Cells.same_holder_trans _ _ _ _ _ _ c.loop-k.invariant.holder c.put_run.ensures.holder (omega arith);
     }

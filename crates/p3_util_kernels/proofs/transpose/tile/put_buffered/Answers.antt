@@ -8,7 +8,7 @@ read_tile-buffer-requires g c =
     let tile = c.args.tile in (
       omega (arith, c.requires.small),
       (
-        λ r k hr hk. omega (arith, c.requires.input_fits, item_inside (tile.col_start + k) (tile.row_start + r) c.args.width c.args.height (omega (arith, hk, c.requires.inside, c.requires.cols)) (omega (arith, hr, c.requires.inside, c.requires.rows))),
+        λ r k hr hk. omega (arith, c.requires.input_fits, item_inside (tile.col_start + k) (tile.row_start + r) c.args.matrix.width c.args.matrix.height (omega (arith, hk, c.requires.inside, c.requires.cols)) (omega (arith, hr, c.requires.inside, c.requires.rows))),
         c.requires.small,
       ),
     )

@@ -5,7 +5,7 @@ use Rattle.p3_util_kernels.proofs.transpose.tile.read_tile.Goals as goal
 
 pub collect_tile-requires : goal.collect_tile-requires
 collect_tile-requires g c =
-    let items = g.R.Source.items c.args.input.now in (
+    let items = g.R.Source.items c.args.matrix.source in (
       omega (arith, c.requires.small),
       (
         λ r k hr hk. omega (arith, length-drop c.place_in-from.result items, c.place_in-from.ensures, c.requires.read r k hr hk),
@@ -16,4 +16,4 @@ collect_tile-requires g c =
 pub returns : goal.returns
 returns g c = λ x y hx hy.
     c.collect_tile.ensures x y hx hy
-    ∙ slice_get-drop c.place_in-from.result (g.R.Source.items c.args.input.now) (y * c.args.width + x) ((c.args.row + y) * c.args.width + (c.args.col + x)) (omega (arith, c.place_in-from.ensures))
+    ∙ slice_get-drop c.place_in-from.result (g.R.Source.items c.args.matrix.source) (y * c.args.matrix.width + x) ((c.args.row + y) * c.args.matrix.width + (c.args.col + x)) (omega (arith, c.place_in-from.ensures))

@@ -1,7 +1,0 @@
--- The modules of lemmas of this crate.
-mod ComposeLemmas
-mod DiagonalLemmas
-mod JoinedLemmas
-mod QuadrantsLemmas
-mod TilesLemmas
-mod TransformLemmas

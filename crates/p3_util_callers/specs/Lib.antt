@@ -1,5 +1,0 @@
-pub mod Diagonal
-pub mod MapCalls
-pub mod Matrix
-pub mod Stages
-pub mod Transform

@@ -1,0 +1,335 @@
+//! What a call on slices does, once its precondition was tested. Whatever a holder says of itself, and whatever
+//! [`choice`](crate::choice) chooses, each function here does what its name says: its contract is that of the kernel.
+
+ghost use Rattle.std.specs.Prelude.{◌≡◌, ◌≢◌, ℕ, ◌*◌, ◌^◌, ◌<◌, length, slice_get};
+ghost use Rattle.p3_util_kernels.specs.Region.{IsReady, IsRegionTransposed, items_of};
+ghost use Rattle.p3_util_kernels.specs.Reversal.{FitsRows, IsRowReversal};
+ghost use Rattle.p3_util_kernels.specs.SwapCounts.{row_swaps};
+ghost use Rattle.p3_util_kernels.specs.Transpose.{IsTranspose};
+
+use crate::choice::{
+    EIGHT_ROWS, LONG_BYTES, Limits, SEVERAL_COLUMNS, SHORT_COLUMN, few_items_of, has_eight_rows,
+    has_lines, row_blocks_of, side_of, strips_of,
+};
+use crate::lines::Lines;
+use p3_util_fast::bulk::{Ahead, Blocked, Tiled};
+use p3_util_fast::rows::RowDigits;
+use p3_util_fast::strips::UNIT;
+use p3_util_fast::ways::{
+    Blocks, Columns, InCols, InRows, PutColumn, PutRegion, ShortColumns, put_as_block,
+};
+use p3_util_kernels::places::{Cells, Source};
+use p3_util_kernels::transpose::{Matrix, Region};
+
+/// The bytes of a cache line.
+pub(crate) const LINE: usize = 64;
+
+/// The cells of a call, and what the choice of a way depends on: first what a build has, and then what follows from it. Only the
+/// time depends on these constants.
+pub(crate) trait Output: Blocked {
+    /// The bytes of an item.
+    const SIZE: usize;
+
+    /// Whether a matrix of few items is put by code that is inlined.
+    const IS_INLINED: bool;
+
+    /// Whether the holder tests each index. Then blocks of several rows take less time than columns.
+    const TESTS_INDICES: bool = true;
+
+    /// Whether the holder transposes items in registers.
+    const HAS_REGISTERS: bool = false;
+
+    /// Whether the processor is an x86-64.
+    const IS_X86_64: bool = false;
+
+    /// Whether an item is so long that it is put by a function of its own.
+    const IS_LONG: bool = LONG_BYTES <= Self::SIZE;
+
+    /// The side of the squares of items that the holder transposes in registers, or 1.
+    const SIDE: usize = side_of(Self::SIZE, Self::HAS_REGISTERS, Self::IS_X86_64);
+
+    /// Whether the holder can store items past the caches.
+    const HAS_LINES: bool = has_lines(Self::SIZE, Self::HAS_REGISTERS, Self::IS_X86_64);
+
+    /// From how many bytes on items are put past the caches.
+    fn limits() -> Limits {
+        Limits::of_users()
+    }
+
+    /// The address of the first cell, or 0 if no choice depends on it.
+    fn address(&self) -> usize {
+        0
+    }
+
+    /// Puts all items of a list of the same length, in the same order.
+    fn copy<R: Ahead<Item = Self::Item> + Copy>(self, source: R) -> Self
+    where
+        Self: Sized,
+        requires { length (R.items source) ≡ length (Self.items self) }
+        ensures copied { Self.items result ≡ R.items source }
+        ensures holder { Self.same_holder (length (Self.items self)) self result };
+
+    /// Puts a region by these lines. The holder may store them past the caches until it returns.
+    fn put_past_caches<R: Ahead<Item = Self::Item> + Copy>(
+        self,
+        lines: Lines,
+        matrix: Matrix<R>,
+        region: Region,
+    ) -> Self
+    where
+        Self: Sized,
+        requires { IsReady region matrix.width matrix.height (R.items matrix.source) (Self.items self) }
+        ensures transposed { IsRegionTransposed region matrix.width matrix.height
+            (R.items matrix.source) (Self.items self) (Self.items result) }
+        ensures holder { Self.same_holder (items_of region) self result }
+    {
+        lines.put(self, matrix, region)
+    }
+}
+
+/// Transposes a matrix. This is inlined in a user's crate, and without debug assertions puts columns itself, since a call would
+/// take as long. The calls have single arguments and no matrix, so that all are in registers and need no room on the stack.
+#[inline(always)]
+pub(crate) fn transpose_whole<M: Output, R: Ahead<Item = M::Item> + Copy>(
+    cells: M,
+    source: R,
+    width: usize,
+    height: usize,
+) -> M
+    requires input_fits { length (R.items source) ≡ width * height }
+    requires output_fits { length (M.items cells) ≡ width * height }
+    ensures order { IsTranspose width height (R.items source) (M.items result) }
+    ensures holder { M.same_holder (width * height) cells result }
+{
+    let items = source.len();
+    if width <= 1 {
+        return cells.copy(source);
+    }
+    // Here, and not above, the compiler makes fewer tests for the other choices.
+    match M::SIDE {
+        4 if width == 4 && height == 4 => return transpose_block::<4, _, _>(cells, source),
+        8 if width == 8 && height == 8 => return transpose_block::<8, _, _>(cells, source),
+        _ => {}
+    }
+    if height <= 1 {
+        return cells.copy(source);
+    }
+    if !M::IS_LONG && items < few_items_of(M::SIDE) {
+        if M::IS_INLINED {
+            return transpose_tiny(cells, source, width, height);
+        }
+        return transpose_tiny_apart(cells, source, width, height);
+    }
+    transpose_apart(cells, source, width, height)
+}
+
+/// Transposes a matrix of few items.
+#[inline(always)]
+fn transpose_tiny<M: Output, R: Ahead<Item = M::Item> + Copy>(
+    cells: M,
+    source: R,
+    width: usize,
+    height: usize,
+) -> M
+    requires input_fits { length (R.items source) ≡ width * height }
+    requires output_fits { length (M.items cells) ≡ width * height }
+    requires len_fits { length (R.items source) < 2 ^ 64 }
+    ensures order { IsTranspose width height (R.items source) (M.items result) }
+    ensures holder { M.same_holder (width * height) cells result }
+{
+    let matrix = Matrix::new(source, width, height);
+    let whole = matrix.whole();
+    if M::TESTS_INDICES {
+        Blocks::<4, _>(ShortColumns).put(cells, matrix, whole)
+    } else if height <= SHORT_COLUMN {
+        ShortColumns.put(cells, matrix, whole)
+    } else {
+        Columns.put(cells, matrix, whole)
+    }
+}
+
+/// Does the same as [`transpose_tiny`]. With debug assertions, a user's crate is often not optimized, and the package may be.
+#[inline(never)]
+fn transpose_tiny_apart<M: Output, R: Ahead<Item = M::Item> + Copy>(
+    cells: M,
+    source: R,
+    width: usize,
+    height: usize,
+) -> M
+    requires input_fits { length (R.items source) ≡ width * height }
+    requires output_fits { length (M.items cells) ≡ width * height }
+    requires len_fits { length (R.items source) < 2 ^ 64 }
+    ensures order { IsTranspose width height (R.items source) (M.items result) }
+    ensures holder { M.same_holder (width * height) cells result }
+{
+    transpose_tiny(cells, source, width, height)
+}
+
+/// Transposes a matrix of one block, in the holder's own way. The side is a constant, and with it the distance of its rows.
+#[inline(never)]
+fn transpose_block<const SIDE: usize, M: Output, R: Ahead<Item = M::Item> + Copy>(
+    cells: M,
+    source: R,
+) -> M
+    requires some { 0 < SIDE }
+    requires input_fits { length (R.items source) ≡ SIDE * SIDE }
+    requires output_fits { length (M.items cells) ≡ SIDE * SIDE }
+    requires len_fits { length (R.items source) < 2 ^ 64 }
+    ensures order { IsTranspose SIDE SIDE (R.items source) (M.items result) }
+    ensures holder { M.same_holder (SIDE * SIDE) cells result }
+{
+    let matrix = Matrix::new(source, SIDE, SIDE);
+    let whole = matrix.whole();
+    put_as_block(cells, matrix, whole)
+}
+
+/// Transposes a matrix that is neither copied nor one block, and has many items or long ones.
+#[inline(never)]
+fn transpose_apart<M: Output, R: Ahead<Item = M::Item> + Copy>(
+    cells: M,
+    source: R,
+    width: usize,
+    height: usize,
+) -> M
+    requires input_fits { length (R.items source) ≡ width * height }
+    requires output_fits { length (M.items cells) ≡ width * height }
+    requires len_fits { length (R.items source) < 2 ^ 64 }
+    ensures order { IsTranspose width height (R.items source) (M.items result) }
+    ensures holder { M.same_holder (width * height) cells result }
+{
+    let matrix = Matrix::new(source, width, height);
+    let whole = matrix.whole();
+    put_region(cells, matrix, whole)
+}
+
+/// Puts a region of a matrix: by lines, by blocks of several rows, or in strips.
+#[inline(always)]
+fn put_region<M: Output, R: Ahead<Item = M::Item> + Copy>(
+    cells: M,
+    matrix: Matrix<R>,
+    region: Region,
+) -> M
+    requires { IsReady region matrix.width matrix.height (R.items matrix.source) (M.items cells) }
+    ensures transposed { IsRegionTransposed region matrix.width matrix.height
+        (R.items matrix.source) (M.items cells) (M.items result) }
+    ensures holder { M.same_holder (items_of region) cells result }
+{
+    let (size, width, height) = (M::SIZE, matrix.width, matrix.height);
+    if M::HAS_LINES && M::limits().fit(size, matrix, region, cells.address()) {
+        return put_streamed(cells, matrix, region);
+    }
+    if M::IS_LONG {
+        let columns = InRows::<UNIT, _, _>(LongColumns, LongColumns);
+        return columns.put(cells, matrix, region);
+    }
+    if M::TESTS_INDICES {
+        if let Some(blocks) = row_blocks_of(size, width, height) {
+            return columns_at_a_time(blocks).put(cells, matrix, region);
+        }
+    }
+    if has_eight_rows(size, M::SIDE, width, height) {
+        let strips = InRows::<EIGHT_ROWS, _, _>(Columns, Columns);
+        return columns_at_a_time(strips).put(cells, matrix, region);
+    }
+    // The side is a constant, so that an instance has no code for other squares.
+    match M::SIDE {
+        4 => columns_at_a_time(strips_of::<4>(width)).put(cells, matrix, region),
+        8 => columns_at_a_time(strips_of::<8>(width)).put(cells, matrix, region),
+        _ => columns_at_a_time(strips_of::<1>(width)).put(cells, matrix, region),
+    }
+}
+
+/// Puts [`SEVERAL_COLUMNS`] at a time in this way.
+#[inline(always)]
+fn columns_at_a_time<S: PutRegion>(way: S) -> InCols<SEVERAL_COLUMNS, S, S> {
+    InCols(way, way)
+}
+
+/// Puts a region by cache lines of the output, past the caches.
+#[inline(never)]
+fn put_streamed<M: Output, R: Ahead<Item = M::Item> + Copy>(
+    cells: M,
+    matrix: Matrix<R>,
+    region: Region,
+) -> M
+    requires { IsReady region matrix.width matrix.height (R.items matrix.source) (M.items cells) }
+    ensures transposed { IsRegionTransposed region matrix.width matrix.height
+        (R.items matrix.source) (M.items cells) (M.items result) }
+    ensures holder { M.same_holder (items_of region) cells result }
+{
+    let size = M::SIZE.clamp(1, LINE);
+    let lines = Lines::new(LINE / size, cells.address() % LINE / size);
+    cells.put_past_caches(lines, matrix, region)
+}
+
+/// Puts a column of long items. A build without optimization has copies of an item on the stack in each function that the item
+/// goes through. So it goes through [`put_item`] alone.
+#[derive(Clone, Copy)]
+struct LongColumns;
+
+impl PutColumn for LongColumns {
+    fn put_column<M: Blocked, R: Ahead<Item = M::Item> + Copy>(
+        self,
+        out: M,
+        matrix: Matrix<R>,
+        from: usize,
+        to: usize,
+        rows: usize,
+    ) -> M {
+        let mut out = out;
+        let mut t = 0;
+        while t < rows {
+            put_item(&mut out, matrix.source, from + t * matrix.width, to + t);
+            t += 1;
+        }
+        out
+    }
+}
+
+/// Puts the item at index `from` of a source into cell `to`.
+#[inline(never)]
+fn put_item<M: Cells, R: Source<Item = M::Item> + Copy>(
+    out: &mut M,
+    source: R,
+    from: usize,
+    to: usize,
+)
+    requires from { from < length (R.items source) }
+    requires to { to < length (M.items out.old) }
+    ensures same_length { length (M.items out.new) ≡ length (M.items out.old) }
+    ensures put { slice_get (M.items out.new) to ≡ slice_get (R.items source) from }
+    ensures others { (p : ℕ) → p ≢ to → slice_get (M.items out.new) p ≡ slice_get (M.items out.old) p }
+    ensures holder { M.same_holder 1 out.old out.new }
+{
+    out.put(to, source.at(from));
+}
+
+/// Puts a region of a matrix. One that is the whole matrix is put as a whole call.
+#[inline(always)]
+pub(crate) fn transpose_region<M: Output, R: Ahead<Item = M::Item> + Copy>(
+    cells: M,
+    matrix: Matrix<R>,
+    region: Region,
+) -> M
+    requires { IsReady region matrix.width matrix.height (R.items matrix.source) (M.items cells) }
+    ensures transposed { IsRegionTransposed region matrix.width matrix.height
+        (R.items matrix.source) (M.items cells) (M.items result) }
+    ensures holder { M.same_holder (items_of region) cells result }
+{
+    if region.rows() == matrix.height && region.cols() == matrix.width {
+        transpose_whole(cells, matrix.source, matrix.width, matrix.height)
+    } else {
+        put_region(cells, matrix, region)
+    }
+}
+
+/// Reverses the order of rows of `row_width` items by index bits.
+#[inline(always)]
+pub(crate) fn reverse_rows<M: Tiled>(items: M, row_width: usize) -> M
+    requires { FitsRows (length (M.items items)) row_width }
+    ensures order { IsRowReversal row_width (M.items items) (M.items result) }
+    ensures holder { M.same_holder (row_swaps (length (M.items items)) row_width) items result }
+{
+    let rows = RowDigits::of(items.len(), row_width);
+    p3_util_fast::rows::reverse_rows(items, rows)
+}

@@ -1,0 +1,4 @@
+pub mod MapCalls
+pub mod Matrix
+pub mod Stages
+pub mod Transform

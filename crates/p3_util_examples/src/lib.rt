@@ -1,0 +1,8 @@
+//! Callers of `p3_util`, proved from public contracts alone: a holder of two slices, lists of calls on
+//! a map, a transform of the columns of a matrix, and short uses.
+#![tactic(auto)]
+
+pub mod joined;
+pub mod linear_map;
+pub mod transform;
+pub mod uses;

@@ -1,0 +1,143 @@
+//! Bit reversal of the order of rows of any width. Each pair of rows whose indices are each other's
+//! reverse is exchanged once. Single items are reversed as rows of one item.
+//!
+//! There are 2^k rows, and the index of a row has three parts. The high part has `half = k / 2`
+//! digits, and `x` stands for its reverse. The part `middle` is one digit if k is odd, and empty
+//! otherwise. The low part `y` has `half` digits. In the reversed index, `x` and `y` have changed
+//! places:
+//!
+//! ```text
+//!     index      rev(x)  middle  y         k = 5, x = 01, middle = 1, y = 11:   10 1 11
+//!     reversed   rev(y)  middle  x                                              11 1 01
+//! ```
+//!
+//! So for each middle digit and all `x < y`, the row of `x` and `y` is exchanged with the row of
+//! `y` and `x`. This reaches each pair of rows exactly once, so no loop has to test an index. All
+//! other rows stay where they are.
+//!
+//! The rows with the same middle digit form a [`Grid`]: the row of `x` and `y` is the place of row
+//! `x` and column `y`, and is exchanged with the place of row `y` and column `x`.
+
+ghost use Rattle.std.specs.Prelude.{◌≡◌, ℕ, ◌+◌, ◌-◌, ◌*◌, ◌/◌, ◌^◌, ◌<◌, ◌≤◌, length};
+ghost use Rattle.p3_util_fast.specs.Grid.{grid_of_rows};
+ghost use Rattle.p3_util_kernels.specs.Logarithms.{clog};
+ghost use Rattle.p3_util_kernels.specs.Reversal.{FitsRows, IsReversal, IsReversible, IsRowReversal};
+ghost use Rattle.p3_util_kernels.specs.SwapCounts.{row_swaps, short_swaps};
+
+use crate::bulk::Tiled;
+use crate::grid::{Grid, exchange_square};
+use p3_util_kernels::bits::{log2_strict_usize, pow2};
+
+/// Rows of `width` items each, whose indices have `digits` binary digits: there are `2^digits`
+/// rows, or none.
+#[derive(Clone, Copy)]
+#[doc(hidden)]
+pub struct RowDigits {
+    pub width: usize,
+    pub digits: usize,
+}
+
+impl RowDigits {
+    /// The rows of `width` items of a list of `len` items.
+    #[inline(always)]
+    #[doc(hidden)]
+    pub fn of(len: usize, width: usize) -> Self
+        requires { FitsRows len width }
+        ensures width { result.width ≡ width }
+        ensures digits { result.digits ≡ clog (len / width) }
+        ensures few { result.digits < 64 }
+    {
+        if len == 0 {
+            return RowDigits { width, digits: 0 };
+        }
+        let digits = log2_strict_usize(len / width);
+        RowDigits { width, digits }
+    }
+
+    /// The grid of the rows whose indices have the middle part `middle`.
+    #[inline(always)]
+    #[doc(hidden)]
+    pub fn grid(self, middle: usize) -> Grid
+        requires few { self.digits < 64 }
+        requires middle { middle < 2 ^ (self.digits - self.digits / 2 - self.digits / 2) }
+        ensures { let half = self.digits / 2 in
+            result ≡ grid_of_rows half (self.digits - half) self.width middle }
+    {
+        let half = self.digits / 2;
+        Grid {
+            width: self.width,
+            base: middle * pow2(half),
+            stride: pow2(self.digits - half),
+            digits: half,
+            reversed: true,
+        }
+    }
+}
+
+/// The kernel of [`reverse_index_bits_short`](crate::reverse::reverse_index_bits_short).
+#[inline(always)]
+#[doc(hidden)]
+pub fn reverse_short<M: Tiled>(m: M) -> M
+    requires { IsReversible (length (M.items m)) }
+    ensures order { IsReversal (M.items m) (M.items result) }
+    ensures holder { M.same_holder (short_swaps (clog (length (M.items m)))) m result }
+{
+    let rows = RowDigits::of(m.len(), 1);
+    reverse_rows(m, rows)
+}
+
+/// The kernel of [`reverse_row_index_bits_on`](crate::reverse::reverse_row_index_bits_on).
+#[inline(always)]
+#[doc(hidden)]
+pub fn reverse_rows<M: Tiled>(m: M, rows: RowDigits) -> M
+    requires fits { FitsRows (length (M.items m)) rows.width }
+    requires digits { rows.digits ≡ clog (length (M.items m) / rows.width) }
+    requires len_fits { length (M.items m) < 2 ^ 64 }
+    ensures order { IsRowReversal rows.width (M.items m) (M.items result) }
+    ensures holder { M.same_holder (row_swaps (length (M.items m)) rows.width) m result }
+{
+    // In the cases with a fixed number of digits, the compiler unrolls the exchanges of all pairs.
+    // Each further case would be one more copy of these exchanges. With too many copies, Rattle's
+    // compiler no longer inlines this function.
+    match rows.digits {
+        2 => exchange_pairs(m, RowDigits { digits: 2, ..rows }, true),
+        3 => exchange_pairs(m, RowDigits { digits: 3, ..rows }, true),
+        4 => exchange_pairs(m, RowDigits { digits: 4, ..rows }, true),
+        5 => exchange_pairs(m, RowDigits { digits: 5, ..rows }, true),
+        _ => exchange_pairs_outlined(m, rows),
+    }
+}
+
+/// Exchanges all pairs of rows whose indices are each other's reverse. In each grid this is done by
+/// quadrants or row by row.
+#[inline(always)]
+fn exchange_pairs<M: Tiled>(m: M, rows: RowDigits, row_by_row: bool) -> M
+    requires fits { FitsRows (length (M.items m)) rows.width }
+    requires digits { rows.digits ≡ clog (length (M.items m) / rows.width) }
+    requires len_fits { length (M.items m) < 2 ^ 64 }
+    ensures order { IsRowReversal rows.width (M.items m) (M.items result) }
+    ensures holder { M.same_holder (rows.width * short_swaps rows.digits) m result }
+{
+    if rows.digits < 2 {
+        return m;
+    }
+    let half = rows.digits / 2;
+    let mut m = m;
+    for middle in 0..pow2(rows.digits - half - half) {
+        m = exchange_square(m, rows.grid(middle), row_by_row);
+    }
+    m
+}
+
+/// Does the same as [`exchange_pairs`], by quadrants, in a function of its own. So a call with few
+/// rows needs no stack frame, which would take longer than its exchanges.
+#[inline(never)]
+pub(crate) fn exchange_pairs_outlined<M: Tiled>(m: M, rows: RowDigits) -> M
+    requires fits { FitsRows (length (M.items m)) rows.width }
+    requires digits { rows.digits ≡ clog (length (M.items m) / rows.width) }
+    requires len_fits { length (M.items m) < 2 ^ 64 }
+    ensures order { IsRowReversal rows.width (M.items m) (M.items result) }
+    ensures holder { M.same_holder (rows.width * short_swaps rows.digits) m result }
+{
+    exchange_pairs(m, rows, false)
+}

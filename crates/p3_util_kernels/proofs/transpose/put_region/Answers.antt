@@ -1,9 +1,0 @@
--- The cells of the region are put, and the others stay.
-use Rattle.p3_util_kernels.proofs.TransposeLemmas.Region.{region_stay}
-use Rattle.p3_util_kernels.proofs.transpose.put_region.Goals as goal
-
-pub returns-clause-put : goal.returns-clause-put
-returns-clause-put g c x y top bottom left right = c.put.ensures.transposed.places x y (record { row_from = top; row_to = bottom; col_from = left; col_to = right })
-
-pub returns-clause-stay : goal.returns-clause-stay
-returns-clause-stay g c = region_stay _ _ _ _ _ _ c.put.ensures.transposed c.requires.inside.rows_inside

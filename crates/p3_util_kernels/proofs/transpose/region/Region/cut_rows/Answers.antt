@@ -1,0 +1,7 @@
+-- The two parts are a cut of the region.
+use Rattle.std.proofs.Common.{arith}
+use Rattle.p3_util_kernels.proofs.TransposeLemmas.Region.{IsCut-rows}
+use Rattle.p3_util_kernels.proofs.transpose.region.Region.cut_rows.Goals as goal
+
+pub returns-clause-cut : goal.returns-clause-cut
+returns-clause-cut c = grind (arith, IsCut-rows)

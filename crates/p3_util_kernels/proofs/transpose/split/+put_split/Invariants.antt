@@ -1,5 +1,0 @@
-use Rattle.p3_util_kernels.proofs.transpose.split.+put_split.Given as goal
-
--- each nested split has fewer levels
-abbrev pub decreases-put_split : goal.decreases-put_split
-decreases-put_split g l = l.levels

@@ -1,0 +1,11 @@
+use Rattle.std.proofs.Common.{◌+◌, ◌*◌}
+use Rattle.p3_util_kernels.specs.Region.{IsRegionTransposed}
+use Rattle.p3_util_kernels.proofs.transpose.tile.put_row_of_blocks.Given as goal
+
+-- the blocks before this one are put
+abbrev pub invariant-loop-k : goal.invariant-loop-k
+invariant-loop-k g l = record {
+  transposed : IsRegionTransposed (record l.blocks { col_end = l.blocks.col_start + 4 * l.k }) l.matrix.width l.matrix.height (g.R.Source.items l.matrix.source)
+      (g.C.Cells.items l.fn.cells) (g.C.Cells.items l.cells);
+  holder : g.C.Cells.same_holder (16 * l.k) l.fn.cells l.cells;
+}

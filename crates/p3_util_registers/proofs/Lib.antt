@@ -1,8 +1,0 @@
--- The modules of lemmas of this crate.
-pub mod RegistersBlocks
-pub mod RegistersLemmas
-pub mod RegistersLines
-pub mod RegistersRuns
-pub mod RegistersSquares
-pub mod RegistersSteps
-pub mod RegistersTiles

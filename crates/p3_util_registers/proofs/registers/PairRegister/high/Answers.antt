@@ -1,6 +1,0 @@
--- The second halves of two pairs are interleaved.
-use Rattle.p3_util_registers.proofs.RegistersLemmas.{AreInterleaved-high}
-use Rattle.p3_util_registers.proofs.registers.PairRegister.high.Goals as goal
-
-pub returns : goal.returns
-returns g c = AreInterleaved-high _ _ _ _ _ _ _ (g.met.R.Register.full _) (g.met.R.Register.full _) (g.met.R.Register.full _) c.low.ensures c.high.ensures

@@ -1,2 +1,0 @@
-pub mod RegisterLines
-pub mod Registers
