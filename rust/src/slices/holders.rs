@@ -12,9 +12,9 @@ use core::sync::atomic::{Ordering, compiler_fence};
 
 pub(super) use self::SliceItems as WholeList;
 pub(super) use bytes::{Bytes, MOVES_BYTES};
-use bytes::{Unaligned, move_bytes, swap_bytes, write_item};
+use bytes::{move_bytes, swap_bytes, write_item};
 pub(crate) use registers::USES_REGISTERS;
-pub(super) use registers::{Items, Vector};
+pub(super) use registers::{Items, Run, Vector};
 
 use crate::kernels::bulk::{Ahead, Block, Blocked, Tiled};
 use crate::kernels::calls::{LINE, Output};
@@ -72,6 +72,14 @@ impl<'a, T, D, const PAST_CACHES: bool> SliceItems<'a, T, D, PAST_CACHES> {
         SliceItems { first, len, slice }
     }
 
+    /// The same items, of which tiles are exchanged. This holder has no registers of its own, so it stores a half by [`Run::write`],
+    /// whose addresses are parts of the instructions. By [`Run::write_from_register`] this would take more instructions, since two
+    /// tiles have more rows than the processor has registers for their addresses.
+    #[inline(always)]
+    fn places(&mut self) -> SliceItems<'_, T> {
+        SliceItems::of(self.first, self.len)
+    }
+
     #[inline(always)]
     fn prefetch(&self, place: usize) {
         cache::prefetch(self.first.wrapping_add(place).cast());
@@ -119,7 +127,7 @@ impl<T> Shared for SliceItems<'_, T> {
     }
 }
 
-impl<T: Copy, D: Register<T>> Output for SliceItems<'_, T, D> {
+impl<T: Copy, D: Register<T, Half: Run>> Output for SliceItems<'_, T, D> {
     const SIZE: usize = size_of::<T>();
     const IS_INLINED: bool = cfg!(not(debug_assertions));
     const TESTS_INDICES: bool = false;
@@ -187,7 +195,7 @@ impl<F, D: Register<F>> Places for SliceItems<'_, F, D> {
 
 /// With debug assertions, functions that use registers have frames of their own: there a register is on the stack in each
 /// function that it goes through.
-impl<F, D: Register<F>> Tiled for SliceItems<'_, F, D> {
+impl<F, D: Register<F, Half: Run>> Tiled for SliceItems<'_, F, D> {
     #[inline(always)]
     fn exchange_runs(&mut self, i: usize, j: usize, len: usize) {
         let n = self.len;
@@ -207,13 +215,13 @@ impl<F, D: Register<F>> Tiled for SliceItems<'_, F, D> {
     #[cfg_attr(debug_assertions, inline(never))]
     #[cfg_attr(not(debug_assertions), inline(always))]
     fn exchange_tiles(&mut self, x: [usize; 8], y: [usize; 8]) {
-        tiles::exchange_both::<F, D, _>(self, x, y);
+        tiles::exchange_both::<F, D, _>(&mut self.places(), x, y);
     }
 
     #[cfg_attr(debug_assertions, inline(never))]
     #[cfg_attr(not(debug_assertions), inline(always))]
     fn turn_tile(&mut self, x: [usize; 8]) {
-        tiles::turn::<F, D, _>(self, x);
+        tiles::turn::<F, D, _>(&mut self.places(), x);
     }
 
     /// Prefetches the cache lines of both tiles if the list does not fit in a cache. The places may be outside. No
@@ -237,7 +245,7 @@ impl<F, D: Register<F>> Tiled for SliceItems<'_, F, D> {
     }
 }
 
-impl<F, D: Register<F>> RunsOfPlaces<F, D> for SliceItems<'_, F, D> {}
+impl<F, D: Register<F, Half: Run>> RunsOfPlaces<F, D> for SliceItems<'_, F> {}
 
 /// A list of at least this many bytes does not fit in a cache.
 const FAR_BYTES: usize = 1 << 23;
@@ -269,7 +277,7 @@ impl<T: Copy, D: Register<T>, const PAST_CACHES: bool> Cells for SliceItems<'_, 
     }
 }
 
-impl<T: Copy, D: Register<T>, const PAST_CACHES: bool> Blocked for SliceItems<'_, T, D, PAST_CACHES> {
+impl<T: Copy, D: Register<T, Half: Run>, const PAST_CACHES: bool> Blocked for SliceItems<'_, T, D, PAST_CACHES> {
     #[cfg_attr(debug_assertions, inline(never))]
     #[cfg_attr(not(debug_assertions), inline(always))]
     fn put_block<R: Ahead<Item = T>>(&mut self, source: &R, block: Block) {
@@ -282,9 +290,14 @@ impl<T: Copy, D: Register<T>, const PAST_CACHES: bool> Blocked for SliceItems<'_
     }
 }
 
-impl<T: Copy, D: Register<T>, const PAST_CACHES: bool> RunsOfCells<T, D> for SliceItems<'_, T, D, PAST_CACHES> {}
+impl<T: Copy, D: Register<T, Half: Run>, const PAST_CACHES: bool> RunsOfCells<T, D>
+    for SliceItems<'_, T, D, PAST_CACHES>
+{
+}
 
-impl<T: Copy, D: Register<T>, const PAST_CACHES: bool> SquaresOfCells<T, D> for SliceItems<'_, T, D, PAST_CACHES> {
+impl<T: Copy, D: Register<T, Half: Run>, const PAST_CACHES: bool> SquaresOfCells<T, D>
+    for SliceItems<'_, T, D, PAST_CACHES>
+{
     const SQUARE: usize = <SliceItems<T, D> as Output>::SIDE;
 
     /// Prefetches the next cache line of each column of a square of 4 by 4. The processor makes its stores in order, so a store
@@ -307,8 +320,8 @@ impl<T: Copy, D: Register<T>, const PAST_CACHES: bool> SquaresOfCells<T, D> for 
 
 /// Whether half a register `D` has the bytes of a run, so that a step reads or writes all of the run and nothing else. The half
 /// `()` has no bytes: with it, a step would do nothing, and a kernel makes none. Its squares have one row, and it fills no line.
-const fn fills_a_run<T, D: Register<T>>() -> bool {
-    size_of::<D::Half>() == D::SIDE * size_of::<T>() || size_of::<D::Half>() == 0
+const fn fills_a_run<T, D: Register<T, Half: Run>>() -> bool {
+    D::Half::BYTES == D::SIDE * size_of::<T>() || D::Half::BYTES == 0
 }
 
 /// Runs of the items, which fill half a register `D`. Here a run `may` be read and written if all of it is among the places
@@ -317,24 +330,32 @@ const fn fills_a_run<T, D: Register<T>>() -> bool {
 /// ends. A run of a source `may` be anywhere in the list. The functions of `kernels/registers.rs` are proved to touch no other
 /// run, whatever `may` and `may_stream` are. So that method may call them if it names no place but those of its step, and no
 /// run that ends after the source.
-impl<T, E, D: Register<T>, const PAST_CACHES: bool> Loads<T, D> for SliceItems<'_, T, E, PAST_CACHES> {
+impl<T, E, D: Register<T, Half: Run>, const PAST_CACHES: bool> Loads<T, D> for SliceItems<'_, T, E, PAST_CACHES> {
     #[inline(always)]
     fn load(&self, place: usize) -> D::Half {
         const { assert!(fills_a_run::<T, D>()) }
         debug_assert!(place <= self.len && D::SIDE <= self.len - place);
-        // SAFETY: the run `may` be read, by the `requires` of `Loads::load`. Its bytes may be unwritten, which a half may be, too:
-        // it is a `MaybeUninit`, or a register, which has only one, or `()`.
-        unsafe { (*self.first.wrapping_add(place).cast::<Unaligned<D::Half>>()).0 }
+        // SAFETY: the run `may` be read, by the `requires` of `Loads::load`, and the half has as many bytes.
+        unsafe { D::Half::read(self.first.wrapping_add(place).cast()) }
     }
 }
 
-impl<T, E, D: Register<T>, const PAST_CACHES: bool> Runs<T, D> for SliceItems<'_, T, E, PAST_CACHES> {
+impl<T, E, D: Register<T, Half: Run>, const PAST_CACHES: bool> Runs<T, D> for SliceItems<'_, T, E, PAST_CACHES> {
     #[inline(always)]
     fn store(&mut self, place: usize, run: D::Half) {
         const { assert!(fills_a_run::<T, D>()) }
         debug_assert!(place <= self.len && D::SIDE <= self.len - place);
-        // SAFETY: the run `may` be written, by the `requires` of `Runs::store`, and the half has the bytes of items.
-        unsafe { *self.first.wrapping_add(place).cast() = Unaligned(run) }
+        // SAFETY: the run `may` be written, by the `requires` of `Runs::store`, and the half has as many bytes, which are those of
+        // items.
+        unsafe {
+            let to = self.first.wrapping_add(place).cast();
+            // Without registers of its own, the holder is one of `SliceItems::places`.
+            if const { size_of::<E>() > 0 } {
+                run.write_from_register(to);
+            } else {
+                run.write(to);
+            }
+        }
     }
 
     /// Writes a register past the caches: its cache line is not read first. `_mm_stream_si128` takes a number, whose bytes all have
@@ -343,7 +364,7 @@ impl<T, E, D: Register<T>, const PAST_CACHES: bool> Runs<T, D> for SliceItems<'_
     #[cfg(all(target_arch = "x86_64", target_feature = "sse2", not(ordinary_stores)))]
     #[inline(always)]
     fn stream(&mut self, place: usize, run: D::Half) {
-        if const { !PAST_CACHES || size_of::<D::Half>() != 16 } {
+        if const { !PAST_CACHES || D::Half::BYTES != 16 } {
             return Runs::<T, D>::store(self, place, run);
         }
         let to = self.first.wrapping_add(place);
@@ -357,13 +378,15 @@ impl<T, E, D: Register<T>, const PAST_CACHES: bool> Runs<T, D> for SliceItems<'_
     }
 }
 
-impl<T: Copy, D: Register<T>, const PAST_CACHES: bool> LinesOfCells<T, D> for SliceItems<'_, T, D, PAST_CACHES> {
+impl<T: Copy, D: Register<T, Half: Run>, const PAST_CACHES: bool> LinesOfCells<T, D>
+    for SliceItems<'_, T, D, PAST_CACHES>
+{
     /// Each column of the block has to be a line of the output. It has four runs, by the `requires` of this method.
     #[inline(always)]
     fn may_stream_lines(&self, block: Block) -> bool {
         let first = self.first.wrapping_add(block.to).addr();
         let distance = block.height.wrapping_mul(size_of::<T>()) * usize::from(block.cols > 1);
-        4 * size_of::<D::Half>() == LINE && (first | distance) % LINE == 0
+        4 * D::Half::BYTES == LINE && (first | distance) % LINE == 0
     }
 }
 
@@ -415,12 +438,12 @@ impl<T: Copy> Ahead for SliceSource<'_, T> {
     }
 }
 
-impl<T, D: Register<T>> Loads<T, D> for SliceSource<'_, T> {
+impl<T, D: Register<T, Half: Run>> Loads<T, D> for SliceSource<'_, T> {
     #[inline(always)]
     fn load(&self, place: usize) -> D::Half {
         const { assert!(fills_a_run::<T, D>()) }
         debug_assert!(place <= self.items.len() && D::SIDE <= self.items.len() - place);
         // SAFETY: as for `SliceItems`.
-        unsafe { (*self.items.as_ptr().wrapping_add(place).cast::<Unaligned<D::Half>>()).0 }
+        unsafe { D::Half::read(self.items.as_ptr().wrapping_add(place).cast()) }
     }
 }

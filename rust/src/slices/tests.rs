@@ -15,7 +15,7 @@ use std::vec::Vec;
 #[cfg(not(feature = "checked"))]
 use super::holders::Bytes;
 #[cfg(not(feature = "checked"))]
-use super::holders::{Items, Vector};
+use super::holders::{Items, Run, Vector};
 use super::holders::{SliceItems, SliceSource};
 #[cfg(not(feature = "checked"))]
 use crate::kernels::bulk::Ahead;
@@ -87,7 +87,7 @@ impl<T: Copy + 'static> Put<T> for Singly {
 pub(super) struct ByRegisters<const N: usize, D>(D);
 
 #[cfg(not(feature = "checked"))]
-impl<'a, T: 'a, const N: usize, D: Register<Bytes<N>>> Hold<'a, T> for ByRegisters<N, D> {
+impl<'a, T: 'a, const N: usize, D: Register<Bytes<N>, Half: Run>> Hold<'a, T> for ByRegisters<N, D> {
     type Holder = SliceItems<'a, Bytes<N>, D>;
 
     fn hold(list: &'a mut [T]) -> Self::Holder {
@@ -96,7 +96,7 @@ impl<'a, T: 'a, const N: usize, D: Register<Bytes<N>>> Hold<'a, T> for ByRegiste
 }
 
 #[cfg(not(feature = "checked"))]
-impl<T: Copy + 'static, const N: usize, D: Register<Bytes<N>>> Put<T> for ByRegisters<N, D> {
+impl<T: Copy + 'static, const N: usize, D: Register<Bytes<N>, Half: Run>> Put<T> for ByRegisters<N, D> {
     type Cell = Bytes<N>;
 
     fn source(list: &[T]) -> SliceSource<'_, Bytes<N>> {
@@ -298,38 +298,6 @@ fn panics(call: impl FnOnce()) -> bool {
     catch_unwind(AssertUnwindSafe(call)).is_err()
 }
 
-/// Floats that are equal if their bits are.
-#[derive(Clone, Copy, Debug)]
-struct Float(f32);
-
-#[derive(Clone, Copy, Debug)]
-struct Double(f64);
-
-impl Float {
-    /// Most of these are NaNs, with bits that arithmetic would change.
-    fn odd(number: usize) -> Self {
-        Float(f32::from_bits(0x7f80_0000 ^ number as u32))
-    }
-}
-
-impl Double {
-    fn odd(number: usize) -> Self {
-        Double(f64::from_bits(0xfff0_0000_0000_0000 ^ number as u64))
-    }
-}
-
-impl PartialEq for Float {
-    fn eq(&self, other: &Self) -> bool {
-        self.0.to_bits() == other.0.to_bits()
-    }
-}
-
-impl PartialEq for Double {
-    fn eq(&self, other: &Self) -> bool {
-        self.0.to_bits() == other.0.to_bits()
-    }
-}
-
 /// A number of one byte that differs for most numbers near `number`, and for most that are 256 apart.
 fn byte(number: usize) -> u8 {
     (number.wrapping_mul(0x9e37_79b9_7f4a_7c15) >> 56) as u8
@@ -342,8 +310,6 @@ fn exchanges_of_blocks() {
     turns(|number| number as u16);
     turns(|number| number as u32);
     turns(|number| (number as u16, number as u8));
-    turns(Float::odd);
-    turns(Double::odd);
     turns(|number| (number as u32, number % 3 == 0));
     turns(|number| number as u128);
     turns(|number| [number as u8, 3, !number as u8]);
@@ -416,7 +382,7 @@ pub(super) fn put_block<T: Copy, H: Put<T>>(cells: &mut [T], source: &[T], block
 
 /// Puts a block by a holder that stores whole lines past the caches.
 #[cfg(not(feature = "checked"))]
-pub(super) fn put_past_caches<const N: usize, D: Register<Bytes<N>>>(
+pub(super) fn put_past_caches<const N: usize, D: Register<Bytes<N>, Half: Run>>(
     cells: &mut [[u8; N]],
     source: &[[u8; N]],
     block: Block,
@@ -432,7 +398,7 @@ pub(super) fn put_past_caches<const N: usize, D: Register<Bytes<N>>>(
 #[cfg(not(feature = "checked"))]
 #[test]
 fn blocks_of_lines() {
-    fn streams<const N: usize, D: Register<Bytes<N>>>() {
+    fn streams<const N: usize, D: Register<Bytes<N>, Half: Run>>() {
         let line = 64 / N;
         let mut list = Aligned([[MaybeUninit::new(0); N]; 600]);
         for (to, height) in (0..=2 * line).flat_map(|to| (line - 2..=3 * line).map(move |height| (to, height))) {
@@ -483,8 +449,6 @@ fn blocks_as_defined() {
     for (width, height) in small.chain(large) {
         transposes_by_blocks(width, height, |i| i as u32);
         transposes_by_blocks(width, height, |i| i as u64);
-        transposes_by_blocks(width, height, Float::odd);
-        transposes_by_blocks(width, height, Double::odd);
         transposes_by_blocks(width, height, |i| (i as u8, (i >> 8) as u16));
     }
 }
@@ -496,7 +460,7 @@ fn blocks_as_defined() {
 fn shuffles() {
     fn compare<const N: usize>()
     where
-        Items<N>: Paired<Bytes<N>>,
+        Items<N>: Paired<Bytes<N>> + Register<Bytes<N>, Half: Run>,
     {
         let lists: [Vec<[u8; N]>; 2] = [0, 16].map(|first| {
             (0..16 / N)
@@ -511,13 +475,20 @@ fn shuffles() {
         let interleaved: Vec<[u8; N]> = lists[0].iter().zip(&lists[1]).flat_map(|(a, b)| [*a, *b]).collect();
         assert_eq!(list, interleaved);
 
+        let (first, second) = a.halves();
+        let first = Items::<N>::from_half(first).halves().0;
         let mut list = lists[0].clone();
         let mut runs = SliceItems::new(&mut list).in_bytes();
-        let (first, second) = a.halves();
         Runs::<Bytes<N>, Items<N>>::store(&mut runs, 0, second);
-        Runs::<Bytes<N>, Items<N>>::store(&mut runs, 8 / N, Items::<N>::from_half(first).halves().0);
-        let (first, second) = lists[0].split_at(8 / N);
-        assert_eq!(list, [second, first].concat());
+        Runs::<Bytes<N>, Items<N>>::store(&mut runs, 8 / N, first);
+        let swapped = [&lists[0][8 / N..], &lists[0][..8 / N]].concat();
+        assert_eq!(list, swapped);
+        // From registers, to any address.
+        let mut list = [&lists[0][..], &lists[0]].concat();
+        let mut runs = SliceItems::new(&mut list).in_bytes().in_registers::<Items<N>>();
+        Runs::<Bytes<N>, Items<N>>::store(&mut runs, 1, second);
+        Runs::<Bytes<N>, Items<N>>::store(&mut runs, 1 + 8 / N, first);
+        assert_eq!(list, [&lists[0][..1], &swapped, &lists[0][1..]].concat());
     }
 
     let has_registers = cfg!(not(unaligned_is_slow))
@@ -619,7 +590,7 @@ mod refused {
     #[cfg(not(feature = "checked"))]
     #[test]
     fn runs() {
-        fn refuses_runs<const N: usize, D: Register<Bytes<N>>>() {
+        fn refuses_runs<const N: usize, D: Register<Bytes<N>, Half: Run>>() {
             let len = D::SIDE;
             let mut list = [[MaybeUninit::new(0); N]; 40];
             let mut places = SliceItems::new(&mut list[..20]);

@@ -3,7 +3,6 @@
 use std::array;
 use std::fmt::Debug;
 use std::num::NonZero;
-use std::rc::Rc;
 use std::sync::atomic::{AtomicUsize, Ordering::Relaxed};
 
 #[cfg(target_pointer_width = "64")]
@@ -98,7 +97,6 @@ fn numbers() {
     serves(|i| i as u32);
     serves(|i| i as u64 * 0x1_0000_0001);
     serves(|i| i as u128 * 0x1_0000_0000_0000_0001);
-    serves(|i| i as f64);
 }
 
 /// Items of more than 72 bytes.
@@ -198,19 +196,6 @@ fn a_refused_call_drops_no_owner() {
     assert!(panics(|| reverse_slice_index_bits(&mut owners)));
     assert!(panics(|| reverse_slice_row_index_bits(&mut owners, 4)));
     assert_eq!(drops.load(Relaxed), 0);
-}
-
-/// The original has no call for rows. The call here needs no bound on the items.
-#[test]
-fn rows_of_items_that_stay_on_their_thread() {
-    let items: Vec<Rc<u8>> = (0..8).map(Rc::new).collect();
-    let mut rows = items.clone();
-    reverse_slice_row_index_bits(&mut rows, 2);
-    assert!(
-        rows.iter()
-            .zip([0, 1, 4, 5, 2, 3, 6, 7])
-            .all(|(item, i)| Rc::ptr_eq(item, &items[i]))
-    );
 }
 
 #[test]

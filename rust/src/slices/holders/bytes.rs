@@ -99,7 +99,7 @@ pub(super) unsafe fn move_bytes<const BACK: bool>(from: *mut u8, to: *mut u8, do
             done += move_part::<Widest, BACK>(from.add(done), to.add(done), size_of::<Widest>());
         }
         done += move_part::<registers::Vector, BACK>(from.add(done), to.add(done), len - done);
-        done += move_part::<registers::Half, BACK>(from.add(done), to.add(done), len);
+        done += move_part::<registers::Word, BACK>(from.add(done), to.add(done), len);
         done += move_part::<MaybeUninit<u32>, BACK>(from.add(done), to.add(done), len);
         done += move_part::<MaybeUninit<u16>, BACK>(from.add(done), to.add(done), len);
         move_part::<MaybeUninit<u8>, BACK>(from.add(done), to.add(done), len);

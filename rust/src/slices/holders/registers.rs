@@ -5,36 +5,32 @@
 //! [`MaybeUninit`], and a copy of it keeps each byte, and the provenance of each pointer. The shuffles of `core::arch` take
 //! numbers. Therefore a shuffle here is one assembly instruction. It has the effect of Rust code that moves the bytes one
 //! by one, and touches no memory. Rust code reads and writes items, so a race detector sees these accesses. Only a store
-//! past the caches is assembly too.
+//! past the caches and, on x86-64, that of the second half of a register are assembly too.
 
 use core::mem::MaybeUninit;
 
-use super::bytes::{Bytes, MOVES_BYTES};
+use super::bytes::{Bytes, MOVES_BYTES, Unaligned};
 use crate::kernels::registers;
 
 #[cfg(all(target_arch = "aarch64", target_feature = "neon", target_endian = "little"))]
 mod processor {
     pub(super) use core::arch::aarch64::uint8x16_t as Raw;
-    pub(super) type Half = f64;
     pub(super) const HAS_REGISTERS: bool = true;
 }
 
-/// As a float, a half stays in a vector register.
 #[cfg(all(target_arch = "x86_64", target_feature = "sse2"))]
 mod processor {
     pub(super) use core::arch::x86_64::__m128i as Raw;
-    pub(super) type Half = f64;
     pub(super) const HAS_REGISTERS: bool = true;
 }
 
-/// Only a name for 16 bytes. A half is an integer: where floats are not in vector registers, a move may change a NaN.
+/// Only a name for 16 bytes.
 #[cfg(not(any(
     all(target_arch = "aarch64", target_feature = "neon", target_endian = "little"),
     all(target_arch = "x86_64", target_feature = "sse2")
 )))]
 mod processor {
     pub(super) type Raw = u128;
-    pub(super) type Half = u64;
     pub(super) const HAS_REGISTERS: bool = false;
 }
 
@@ -50,18 +46,124 @@ pub(super) type Widest = MaybeUninit<core::arch::x86_64::__m256i>;
 #[cfg(not(all(target_arch = "x86_64", target_feature = "avx")))]
 pub(super) type Widest = Vector;
 
-/// 8 bytes.
-pub(crate) type Half = MaybeUninit<processor::Half>;
+/// 8 bytes. They are an integer, since a move of a float may change a NaN.
+pub(super) type Word = MaybeUninit<u64>;
 
 /// A register of items of `N` bytes.
 #[derive(Clone, Copy)]
 pub(crate) struct Items<const N: usize>(Vector);
 
+/// Half a register, which stays there: its first 8 bytes or its last.
+#[derive(Clone, Copy)]
+pub(crate) struct Half {
+    register: Vector,
+    is_second: bool,
+}
+
+impl Half {
+    /// The first half of a register that has no other bytes.
+    #[inline(always)]
+    fn of(word: Word) -> Self {
+        let mut register = Vector::uninit();
+        words_of(&mut register)[0] = word;
+        Half {
+            register,
+            is_second: false,
+        }
+    }
+
+    #[inline(always)]
+    fn word(mut self) -> Word {
+        words_of(&mut self.register)[usize::from(self.is_second)]
+    }
+}
+
 /// The two halves of a register.
 #[inline(always)]
-fn halves_of(register: &mut Vector) -> &mut [Half; 2] {
+fn words_of(register: &mut Vector) -> &mut [Word; 2] {
     // SAFETY: they are the register's bytes, which may be unwritten, and need no greater alignment.
     unsafe { &mut *register.as_mut_ptr().cast() }
+}
+
+/// What a step reads or writes: half a register.
+pub(crate) trait Run: Copy {
+    /// How many bytes of a list it has.
+    const BYTES: usize = size_of::<Self>();
+
+    /// Reads it.
+    ///
+    /// # Safety
+    ///
+    /// `from` is valid for reads of [`Run::BYTES`] bytes.
+    #[inline(always)]
+    unsafe fn read(from: *const u8) -> Self {
+        // SAFETY: this is what the caller promises. The bytes may be unwritten, which the types here may be, too: a `MaybeUninit`,
+        // a register, which has only one, and `()`.
+        unsafe { (*from.cast::<Unaligned<Self>>()).0 }
+    }
+
+    /// Writes it.
+    ///
+    /// # Safety
+    ///
+    /// `to` is valid for writes of [`Run::BYTES`] bytes.
+    #[inline(always)]
+    unsafe fn write(self, to: *mut u8) {
+        // SAFETY: this is what the caller promises.
+        unsafe { *to.cast() = Unaligned(self) }
+    }
+
+    /// Writes it by one instruction, for which its address has to be in a register.
+    ///
+    /// # Safety
+    ///
+    /// `to` is valid for writes of [`Run::BYTES`] bytes.
+    #[inline(always)]
+    unsafe fn write_from_register(self, to: *mut u8) {
+        // SAFETY: this is what the caller promises.
+        unsafe { self.write(to) }
+    }
+}
+
+impl Run for () {}
+
+impl Run for Vector {}
+
+impl<const N: usize> Run for Items<N> {}
+
+impl Run for Half {
+    const BYTES: usize = size_of::<Word>();
+
+    #[inline(always)]
+    unsafe fn read(from: *const u8) -> Self {
+        // SAFETY: this is what the caller promises. The bytes may be unwritten, which a `MaybeUninit` may be, too.
+        Half::of(unsafe { (*from.cast::<Unaligned<Word>>()).0 })
+    }
+
+    #[inline(always)]
+    unsafe fn write(self, to: *mut u8) {
+        // SAFETY: this is what the caller promises.
+        unsafe { *to.cast() = Unaligned(self.word()) }
+    }
+
+    /// The compiler would move a second half to the first before it writes it, which is one more shuffle. No race detector sees
+    /// assembly (`ordinary_stores`), and Miri does not support it.
+    #[cfg(all(target_arch = "x86_64", target_feature = "sse2", not(ordinary_stores), not(miri)))]
+    #[inline(always)]
+    unsafe fn write_from_register(self, to: *mut u8) {
+        if !self.is_second {
+            // SAFETY: this is what the caller promises.
+            return unsafe { self.write(to) };
+        }
+        // SAFETY: the one of these instructions that the processor has writes the last 8 bytes of a register to any address, and
+        // does nothing else. The caller promises that they may be written there. They may be unwritten: no number is made of them.
+        unsafe {
+            #[cfg(not(target_feature = "avx"))]
+            core::arch::asm!("movhps [{}], {}", in(reg) to, in(xmm_reg) self.register, options(nostack, preserves_flags));
+            #[cfg(target_feature = "avx")]
+            core::arch::asm!("vmovhps [{}], {}", in(reg) to, in(xmm_reg) self.register, options(nostack, preserves_flags));
+        }
+    }
 }
 
 /// Defines registers. A line has the bytes of an item and aarch64's name of such parts of a register. Then it has the name
@@ -71,7 +173,7 @@ macro_rules! registers {
         impl registers::Register<Bytes<$bytes>> for Items<$bytes> {
             type Half = Half;
 
-            const SIDE: usize = size_of::<Half>() / $bytes;
+            const SIDE: usize = Half::BYTES / $bytes;
 
             $(#[inline(always)]
             #[allow(unused)] // Without `USES_REGISTERS`, nothing is shuffled.
@@ -96,15 +198,13 @@ macro_rules! registers {
 
             #[inline(always)]
             fn from_half(first: Half) -> Self {
-                let mut register = Vector::uninit();
-                halves_of(&mut register)[0] = first;
-                Items(register)
+                Items(Half::of(first.word()).register)
             }
 
             #[inline(always)]
-            fn halves(mut self) -> (Half, Half) {
-                let [first, second] = *halves_of(&mut self.0);
-                (first, second)
+            fn halves(self) -> (Half, Half) {
+                let first = Half { register: self.0, is_second: false };
+                (first, Half { is_second: true, ..first })
             }
         }
 

@@ -84,7 +84,7 @@ fn all_heights() {
         for (width, parts) in [(15, 2), (16, 2), (33, 3), (100, 5), (1100, 2)] {
             transposes([width, height], [3, 5], parts, |number| number as u32);
             transposes([width, height], [2, 7], parts, |number| number);
-            transposes([width, height], [0, 0], parts, |number| number as f64);
+            transposes([width, height], [0, 0], parts, |number| !number);
             transposes([width, height], [1, 3], parts, |number| [number, 7]);
         }
     }

@@ -5,7 +5,7 @@
 use std::array::from_fn;
 use std::ptr::null_mut;
 
-use super::super::{Bytes, Items, SliceItems, SliceSource, USES_REGISTERS, Vector};
+use super::super::{Bytes, Items, Run, SliceItems, SliceSource, USES_REGISTERS, Vector};
 use crate::kernels::bulk::{Ahead, Block, Tiled};
 use crate::kernels::places::{Cells, Places, Source};
 use crate::kernels::registers::blocks::SquaresOfCells;
@@ -189,7 +189,7 @@ fn columns_off_a_line<const N: usize>(ends_with_page: bool, put: impl Fn(&mut [[
 }
 
 /// Puts a block of whole cache lines past the caches, and a single column of it, of which each row is read from the column on.
-fn lines<const N: usize, D: Register<Bytes<N>>>(ends_with_page: bool) {
+fn lines<const N: usize, D: Register<Bytes<N>, Half: Run>>(ends_with_page: bool) {
     let rows = 64 / N;
     for cols in [1, rows] {
         let mut source = Runs::<N>::new(rows, cols.max(16 / N), ends_with_page);
