@@ -4,10 +4,6 @@ use std::hint::black_box;
 
 use crate::cases::{Case, Work};
 use crate::measure::{Contender, Runner, Task};
-#[cfg(parallel)]
-use overlay::{
-    proved::reverse_slice_row_index_bits as reverse_rows, reverse_slice_index_bits as reverse, transpose::transpose,
-};
 
 /// The sizes of an item in bytes, each with a type of this size.
 macro_rules! sizes {
@@ -129,7 +125,7 @@ impl<T: Item> Lists<T> {
         // inline short calls any more.
         match contender {
             #[cfg(parallel)]
-            Contender::Proved => self.overlay(times),
+            Contender::Proved => self.on_threads(times, None),
             #[allow(unreachable_patterns, reason = "the arm above may have the first")]
             Contender::Proved | Contender::Call => {
                 self.package(times, parts.filter(|_| contender == Contender::Proved))
@@ -147,16 +143,8 @@ impl<T: Item> Lists<T> {
     calls_by!(package, p3_util_proved);
     #[cfg(before)]
     calls_by!(package_before, p3_util_before);
-
     #[cfg(parallel)]
-    fn overlay(&mut self, times: u32) {
-        self.repeat(
-            times,
-            |to, ()| reverse(to),
-            reverse_rows,
-            |to, (from, width, height)| transpose(from, to, width, height),
-        )
-    }
+    calls_by!(on_threads, p3_util_on_threads);
 
     #[cfg(original)]
     fn original(&mut self, times: u32) {

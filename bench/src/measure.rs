@@ -19,7 +19,7 @@ pub trait Task {
 /// Who makes a call.
 #[derive(Clone, Copy, Debug, PartialEq, Eq)]
 pub enum Contender {
-    /// The package, or the overlay on all threads.
+    /// The package, or with `parallel` on all threads.
     Proved,
     /// `p3-util` 0.8.0.
     Original,

@@ -1,9 +1,8 @@
-//! A transpose and a reversal in parts, on scoped threads of std.
+//! A transpose and a reversal on several threads: by the feature `parallel`, and in parts on threads of your own.
 //!
-//! The package starts no thread. It only cuts a call into parts. Here there are as many threads as processors, and each
-//! thread takes one part after another from a queue.
+//!     cargo run --release --example threads --features parallel
 //!
-//! Only systems of 64 bits have parts.
+//! Only systems of 64 bits have either. Without the feature, the calls below run on one thread.
 
 use std::num::NonZero;
 use std::sync::Mutex;
@@ -13,7 +12,7 @@ use p3_util_proved::parts::{self, ReversalPart, TransposePart};
 use p3_util_proved::{reverse_slice_index_bits, transpose::transpose};
 // The package's own name. Your Cargo.toml may name it p3_util, as README shows, so that code for the original compiles.
 
-/// Runs all parts on `threads` threads, and returns when they are done.
+/// Runs all parts on `threads` threads of std, and returns when they are done. Each takes one part after another from a queue.
 fn run_all<P>(threads: usize, parts: impl Iterator<Item = P> + Send, run: fn(P)) {
     let queue = Mutex::new(parts);
     // The lock is held only while a part is taken, not while it runs.
@@ -26,25 +25,27 @@ fn run_all<P>(threads: usize, parts: impl Iterator<Item = P> + Send, run: fn(P))
 }
 
 fn main() {
-    let threads = available_parallelism().map_or(1, NonZero::get);
-    // Parts differ in size, so there are more of them than threads.
-    let asked = 4 * threads;
-
     let (width, height) = (2048, 1024);
     let matrix: Vec<u32> = (0..1 << 21).collect();
+
+    // With the feature, long calls run on the threads of rayon's pool. In a pool of your own, `pool.install` makes them run there.
     let mut columns = vec![0; matrix.len()];
-    let parts = parts::transpose(&matrix, &mut columns, width, height, asked);
+    transpose(&matrix, &mut columns, width, height);
+    let mut list = matrix.clone();
+    reverse_slice_index_bits(&mut list);
+
+    // Without the feature, or if your threads are not rayon's: the same in parts. These differ in size, so there are more of them
+    // than threads.
+    let threads = available_parallelism().map_or(1, NonZero::get);
+    let mut same = vec![0; matrix.len()];
+    let parts = parts::transpose(&matrix, &mut same, width, height, 4 * threads);
     println!("a transpose in {} parts", parts.len());
     run_all(threads, parts, TransposePart::run);
-    let mut expected = vec![0; matrix.len()];
-    transpose(&matrix, &mut expected, width, height);
-    assert!(columns == expected);
+    assert!(same == columns);
 
-    let mut list = matrix.clone();
-    let parts = parts::reversal(&mut list, asked);
+    let mut same = matrix;
+    let parts = parts::reversal(&mut same, 8 * threads);
     println!("a reversal in {} parts", parts.len());
     run_all(threads, parts, ReversalPart::run);
-    let mut expected = matrix;
-    reverse_slice_index_bits(&mut expected);
-    assert!(list == expected);
+    assert!(same == list);
 }

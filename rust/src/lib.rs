@@ -13,16 +13,18 @@
 //! assert_eq!(columns, [0, 1, 4, 5, 2, 3, 6, 7]);
 //! ```
 //!
-//! [`reverse_slice_index_bits`], [`reverse_slice_row_index_bits`] and [`transpose::transpose`] reorder slices. [`parts`]
-//! cuts these calls into parts for threads of your own. [`linear_map`] has a map for few keys.
+//! [`reverse_slice_index_bits`], [`reverse_slice_row_index_bits`] and [`transpose::transpose`] reorder slices. With the feature
+//! `parallel`, they run long lists on rayon's threads, on systems of 64 bits. [`parts`] cuts these calls into parts for threads
+//! of your own. [`linear_map`] has a map for few keys.
 //!
 //! If a function needs a condition, such as a length that is a power of two, it checks that condition and panics if it
 //! does not hold. [`reverse_bits`] and [`reverse_bits_len`] check theirs only with debug assertions. Then proved code
 //! does the work: [`kernels`] has it, and also takes lists of your own.
 //!
-//! The crate is `no_std` with `alloc` and starts no thread. With the feature `checked`, which is off by default, the
-//! kernels check each index of a slice, and the crate has no unsafe code. Results are the same. If one crate of a
-//! program enables the feature, cargo enables it for all.
+//! The crate is `no_std` with `alloc`. Without the feature `parallel` it starts no thread. With the feature `checked`, the kernels
+//! check each index of a slice, and the crate has no unsafe code. Results are the same. Both features are off by default. If one
+//! crate of a program enables a feature, cargo enables it for all. With `parallel`, [`reverse_slice_row_index_bits`] needs items
+//! that are `Send`.
 #![no_std]
 #![cfg_attr(feature = "checked", forbid(unsafe_code))]
 #![cfg_attr(not(feature = "checked"), deny(unsafe_code))]
@@ -33,9 +35,6 @@ extern crate std;
 
 #[cfg(not(any(target_pointer_width = "64", target_pointer_width = "32")))]
 compile_error!("p3-util-proved needs a usize of 64 or 32 bits");
-
-use alloc::string::String;
-use core::any::type_name;
 
 mod bits;
 /// The proved code. The contracts are in docs/contracts.txt of a release, and in the repository beside the functions.
@@ -183,6 +182,6 @@ pub fn iter_array_chunks_padded<T: Copy, const N: usize>(
 ///
 /// If memory runs out. The proved [`kernels::bits::pretty_name`] returns an error then.
 #[track_caller]
-pub fn pretty_name<T>() -> String {
-    memory::granted(kernels::bits::pretty_name(memory::Global, type_name::<T>())).into()
+pub fn pretty_name<T>() -> alloc::string::String {
+    memory::granted(kernels::bits::pretty_name(memory::Global, core::any::type_name::<T>())).into()
 }

@@ -1,4 +1,4 @@
-//! What does not compile: types that do not meet the bounds of proved calls, and parts that would run twice or while
+//! What does not compile: types that do not meet the bounds of calls, and parts that would run twice or while
 //! their list is in use. Each block marked `compile_fail` would compile if one bound or one lifetime were missing.
 //!
 //! ```
@@ -38,6 +38,23 @@
 //! fn of_the_second<A: ExactSizeIterator, B: ExactSizeIterator + FusedIterator>() {
 //!     ends_for_good::<ZipEq<A, B>>();
 //! }
+//! ```
+//!
+//! Calls that may run on other threads take only items that may go there. A reversal of rows takes all items without the feature
+//! `parallel`:
+//!
+//! ```compile_fail,E0277
+//! p3_util_proved::reverse_slice_index_bits(&mut [std::cell::Cell::new(1)]);
+//! ```
+//!
+//! ```compile_fail,E0277
+//! let item = std::cell::Cell::new(1);
+//! p3_util_proved::transpose::transpose(&[&item], &mut [&item], 1, 1);
+//! ```
+//!
+#![cfg_attr(feature = "parallel", doc = "```compile_fail,E0277")]
+#![cfg_attr(not(feature = "parallel"), doc = "```")]
+//! p3_util_proved::reverse_slice_row_index_bits(&mut [std::rc::Rc::new(1)], 1);
 //! ```
 //!
 //! # Parts

@@ -7,6 +7,8 @@
 //! `instances.rs` has an instance of the kernels for each usual size of an item. With `checked` and on 32 bits, `by_type.rs` is
 //! used instead, which has none.
 //!
+//! With the feature `parallel`, `parallel.rs` runs long calls in parts. Otherwise `threads.rs` says that no call is cut.
+//!
 //! On a system of 32 bits, `narrow.rs` has the holders: those of the kernels, which check each index too.
 
 use crate::kernels::reverse::fits_rows;
@@ -22,6 +24,8 @@ mod holders;
 mod instances;
 #[cfg(target_pointer_width = "64")]
 pub mod parts;
+#[cfg_attr(all(feature = "parallel", target_pointer_width = "64"), path = "slices/parallel.rs")]
+mod threads;
 
 /// Reverses the order of `vals` by index bits.
 ///
@@ -48,14 +52,15 @@ pub fn reverse_slice_index_bits<F: Send + Sync>(vals: &mut [F]) {
     if !fits_rows(vals.len() as Index, 1) {
         refuse_rows(vals.len(), 1);
     }
-    if size_of::<F>() > 0 {
+    if size_of::<F>() > 0 && !threads::reverse(vals, 1) {
         instances::reverse(WholeList::new(vals));
     }
 }
 
 /// Reverses the order of the rows of `vals` by index bits. Each row has `row_width` items.
 ///
-/// With 2^k rows, the row at index `r` comes from the index that has the k bits of `r` in reversed order.
+/// With 2^k rows, the row at index `r` comes from the index that has the k bits of `r` in reversed order. With the feature
+/// `parallel`, items must be `Send`.
 ///
 /// ```
 /// let mut rows = [0, 1, 10, 11, 20, 21, 30, 31];
@@ -68,11 +73,14 @@ pub fn reverse_slice_index_bits<F: Send + Sync>(vals: &mut [F]) {
 /// If the length is not `row_width` times zero or a power of two. With a `row_width` of 0 the length must be 0.
 #[inline]
 #[track_caller]
-pub fn reverse_slice_row_index_bits<F>(vals: &mut [F], row_width: usize) {
+pub fn reverse_slice_row_index_bits<#[cfg(not(feature = "parallel"))] F, #[cfg(feature = "parallel")] F: Send>(
+    vals: &mut [F],
+    row_width: usize,
+) {
     if !fits_rows(vals.len() as Index, row_width as Index) {
         refuse_rows(vals.len(), row_width);
     }
-    if size_of_val(vals) > 0 {
+    if size_of_val(vals) > 0 && !threads::reverse(vals, row_width) {
         instances::reverse_rows(WholeList::new(vals), row_width as Index);
     }
 }
@@ -106,7 +114,7 @@ pub fn transpose<T: Copy + Send + Sync>(input: &[T], output: &mut [T], width: us
     if !fits_matrix(input.len() as Index, output.len() as Index, cols, rows) {
         crate::transpose::refuse(input.len(), output.len(), width, height);
     }
-    if size_of::<T>() > 0 {
+    if size_of::<T>() > 0 && !threads::transpose(input, output, width, height) {
         instances::transpose_whole(SliceItems::new(output), SliceSource::new(input), cols, rows);
     }
 }

@@ -1,4 +1,5 @@
-//! Transposes and reversals in parts, for threads of your own. This package starts none.
+//! Transposes and reversals in parts, for threads of your own. With the feature `parallel` the calls themselves run long lists
+//! in parts on rayon's threads.
 //!
 //! The parts of a call may run in any order, at the same time, each on any thread. All parts together have the same
 //! effect as the call. Nothing is allocated.
@@ -13,16 +14,15 @@
 //! assert_eq!(list[..3], [0, 1 << 19, 1 << 18]);
 //! ```
 //!
-//! Parts differ in size, so ask for about four parts for each thread. With rayon, run them by
-//! `parts.par_bridge().for_each(ReversalPart::run)`, which returns when all parts are done. Threads that already wait for
-//! work make a reversal faster from about 2^17 items of 4 bytes on, and threads started for the call from 2 to 4 MiB on.
+//! Parts differ in size, so ask for four parts of a transpose and eight of a reversal for each thread, as `parallel` does.
+//! Threads that already wait for work make a reversal faster from about 2^17 items of 4 bytes on, and threads started for the
+//! call from 2 to 4 MiB on.
 //!
 //! A part that is dropped without being run leaves its cells, or its pairs of items, as they are. The compiler does not
 //! warn about `for _part in parts {}`, which drops all of them. Whatever you drop, forget or run in another order, and
 //! wherever a panic comes from, memory is safe, and a reversal leaves each item once. README says under "Threads" what is
 //! proved and what is reviewed, and `crates/p3_util_dispatch` of the repository has the contracts.
 use core::fmt;
-use core::iter::FusedIterator;
 
 use super::{SliceItems, SliceSource, instances, refuse_rows};
 use crate::kernels::bytes::plan_in_bytes;
@@ -106,21 +106,23 @@ pub fn transpose<'a, T: Copy + Send + Sync>(
     TransposeParts(PartsToRun::of(cells, plan, input))
 }
 
-/// Cuts [`reverse_slice_index_bits`](crate::reverse_slice_index_bits) into about twice as many parts as you ask for.
+/// Cuts [`reverse_slice_index_bits`](crate::reverse_slice_index_bits) into about `parts` parts, with the feature `checked` into
+/// one.
 ///
 /// A list of up to [`one_part_reversal`] items is one part, and one that is empty, or whose items have no bytes, has none.
-/// A longer one, of 2^k items, is cut like a square of 2^(k / 2) rows and columns, or like two squares if k is odd. If
-/// you ask for N parts, 0 for 1, each side is cut into at most P = 1 + ⌊2√(N − 1)⌋ ranges, and each patch of a square on
-/// or above its diagonal is a part. These are P(P + 1) / 2 parts for each square, and fewer if its sides are too short:
+/// A longer one, of 2^k items, is cut like a square of 2^(k / 2) rows and columns, or like two squares if k is odd. Each side
+/// is cut into at most P ranges, and each patch of a square on or above its diagonal is a part. These are P(P + 1) / 2 parts
+/// for each square, and fewer if its sides are too short. P is 1 + ⌊2√(N − 1)⌋, where N is half the parts that you ask
+/// for, divided among the squares, and at least 1:
 ///
 /// ```
 /// # if cfg!(not(feature = "checked")) {
 /// use p3_util_proved::parts::reversal;
 ///
 /// let mut list = vec![0u8; 1 << 21];
-/// assert_eq!(reversal(&mut list, 16).len(), 72);
+/// assert_eq!([16, 64].map(|parts| reversal(&mut list, parts).len()), [20, 72]);
 /// let square = &mut list[..1 << 20];
-/// assert_eq!([16, 64, 256].map(|parts| reversal(square, parts).len()), [36, 136, 528]);
+/// assert_eq!([16, 64].map(|parts| reversal(square, parts).len()), [21, 78]);
 /// # }
 /// ```
 ///
@@ -141,7 +143,9 @@ pub fn reversal<F: Send>(vals: &mut [F], parts: usize) -> ReversalParts<'_, F> {
 #[track_caller]
 #[must_use = "the list is reversed by the parts, and none has run yet"]
 pub fn row_reversal<F: Send>(vals: &mut [F], row_width: usize, parts: usize) -> ReversalParts<'_, F> {
-    let ranges = ranges_if_cut(vals.len(), one_part_reversal::<F>(), parts);
+    // A square is asked for half as many parts as it shall have, and an odd power of two is two squares.
+    let asked = parts >> (1 + (vals.len() / row_width.max(1)).trailing_zeros() % 2);
+    let ranges = ranges_if_cut(vals.len(), one_part_reversal::<F>(), asked);
     cut(vals, row_width, ranges)
 }
 
@@ -190,7 +194,7 @@ macro_rules! iterators {
 
         impl<T> ExactSizeIterator for $parts<'_, T> {}
 
-        impl<T> FusedIterator for $parts<'_, T> {}
+        impl<T> core::iter::FusedIterator for $parts<'_, T> {}
 
         impl<T> fmt::Debug for $parts<'_, T> {
             fn fmt(&self, f: &mut fmt::Formatter<'_>) -> fmt::Result {

@@ -157,6 +157,24 @@ fn none_and_one() {
     }
 }
 
+/// A list of `limit` items is one part, and one of twice as many is cut. With the feature `checked` none is.
+#[test]
+fn lists_that_are_cut() {
+    fn check<F: Default + Send>(limit: usize) {
+        let mut list: Vec<F> = (0..2 * limit).map(|_| F::default()).collect();
+        let is_cut = cfg!(not(feature = "checked"));
+        assert_eq!(one_part_reversal::<F>(), if is_cut { limit } else { usize::MAX });
+        assert_eq!(reversal(&mut list[..limit], 16).len(), 1);
+        assert_eq!(row_reversal(&mut list[..limit], 4, 16).len(), 1);
+        assert_eq!(reversal(&mut list, 16).len() > 1, is_cut);
+        assert_eq!(row_reversal(&mut list, 4, 16).len() > 1, is_cut);
+    }
+    check::<u8>(1 << 16);
+    check::<[u64; 4]>(1 << 16);
+    check::<[u64; 8]>(1 << 15);
+    check::<[[u64; 32]; 8]>(1 << 10);
+}
+
 /// The longer side is cut, except that with the feature `checked` always the columns are. A part that is not run leaves
 /// its cells as they are.
 #[test]

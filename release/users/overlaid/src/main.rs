@@ -26,22 +26,7 @@ fn moves<T: Copy + Debug + PartialEq + Send + Sync>(item: impl Fn(u8) -> T) {
     );
 }
 
-/// Reverses and transposes lists that are long enough for several threads.
-fn moves_long_lists() {
-    let list: Vec<u32> = (0..1 << 20).collect();
-    let transposed = tree::transposed(&list, 1 << 11);
-    assert!((0..1 << 20).all(|place| transposed[place] == list[place % 512 * 2048 + place / 512]));
-    let reversed = tree::reversed(list);
-    assert!(
-        reversed
-            .iter()
-            .zip(0u32..)
-            .all(|(item, i)| *item == i.reverse_bits() >> 12)
-    );
-}
-
 /// What the proved package has in addition to the original's names. The project does not depend on the package itself.
-/// The last list is long enough for several threads.
 #[cfg(target_pointer_width = "64")]
 fn calls_of_the_package() {
     use p3_util::proved::{
@@ -56,10 +41,6 @@ fn calls_of_the_package() {
     let mut swaps = Swaps::new(SlicePlaces::new(&mut rows));
     reverse_index_bits_on(&mut swaps);
     assert_eq!(swaps.swaps(), 2);
-    let mut list: Vec<u32> = (0..100 << 13).collect();
-    reverse_slice_row_index_bits(&mut list, 100);
-    let is_reversed = |(row, items): (u32, &[u32])| items[0] == (row.reverse_bits() >> 19) * 100 && items.is_sorted();
-    assert!((0..).zip(list.chunks(100)).all(is_reversed));
 }
 
 #[cfg(not(target_pointer_width = "64"))]
@@ -102,11 +83,10 @@ fn main() {
     moves(|i| [i; 7]);
     moves(|i| [u32::from(i); 9]);
     reverses(|i| vec![i; 5]);
-    moves_long_lists();
     calls_of_the_package();
     calls();
     // Only the call of branch_hint, or all of them.
-    let originals = if IS_PROVED { 1 } else { 2 * 4 + 1 + 2 + 5 };
+    let originals = if IS_PROVED { 1 } else { 2 * 4 + 1 + 5 };
     assert_eq!(CALLS.load(Relaxed), originals);
     assert_eq!(right_answers(), [IS_PROVED; 15]);
     // Items that are the original's on every system.

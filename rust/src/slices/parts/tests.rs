@@ -12,9 +12,9 @@ use crate::kernels::rows::{RowDigits, reverse_rows};
 use crate::kernels::transpose::Matrix;
 use crate::kernels::ways::{Columns, PutRegion};
 
-/// Into how many ranges a side is cut at most, for a list that is cut.
-fn ranges(asked: usize) -> usize {
-    ranges_if_cut(1, 0, asked).unwrap()
+/// Into how many ranges a side is cut at most, if 2^`digits` rows are cut.
+fn ranges(digits: u32, asked: usize) -> usize {
+    ranges_if_cut(1, 0, asked / if digits % 2 == 0 { 2 } else { 4 }).unwrap()
 }
 
 /// Item `number` of a list. Its first byte tells it from most others, and its first eight from all.
@@ -31,7 +31,7 @@ fn item<const N: usize>(number: usize) -> [u8; N] {
 /// checks each index. If the processor moves unaligned bytes fast, a row is one place if it has as many bytes as an item
 /// that has kernels in this package.
 fn exchange_by_plan<const N: usize, const WIDTH: usize>(rows: &mut [[[u8; N]; WIDTH]], asked: usize, number: usize) {
-    let len = rows.len() * WIDTH;
+    let (len, ranges) = (rows.len() * WIDTH, ranges(rows.len().ilog2(), asked));
     let is_cut = len > one_part_reversal::<[u8; N]>();
     fn exchange(places: impl Tiled, width: usize, parts: usize, is_cut: bool, number: usize) {
         let len = places.len();
@@ -48,15 +48,9 @@ fn exchange_by_plan<const N: usize, const WIDTH: usize>(rows: &mut [[[u8; N]; WI
         not(unaligned_is_slow)
     ));
     if moves_rows && matches!(N * WIDTH, 1 | 2 | 4 | 8 | 12 | 16 | 20 | 32 | 64) {
-        exchange(SlicePlaces::new(rows), 1, ranges(asked), is_cut, number);
+        exchange(SlicePlaces::new(rows), 1, ranges, is_cut, number);
     } else {
-        exchange(
-            SlicePlaces::new(rows.as_flattened_mut()),
-            WIDTH,
-            ranges(asked),
-            is_cut,
-            number,
-        );
+        exchange(SlicePlaces::new(rows.as_flattened_mut()), WIDTH, ranges, is_cut, number);
     }
 }
 
@@ -103,9 +97,9 @@ fn puts_alone<const N: usize>() {
 fn each_part_alone() {
     macro_rules! sizes {
         ($($bytes:literal)*) => { $(
-            exchanges_alone::<$bytes, 1>(17, 2);
-            exchanges_alone::<$bytes, 2>(16, 2);
-            exchanges_alone::<$bytes, 3>(15, 2);
+            exchanges_alone::<$bytes, 1>(17, 8);
+            exchanges_alone::<$bytes, 2>(16, 4);
+            exchanges_alone::<$bytes, 3>(15, 8);
             puts_alone::<$bytes>();
         )* };
     }
