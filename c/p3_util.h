@@ -37,57 +37,58 @@ extern "C" {
 #endif
 
 /*
- * Reverses the order of len items by index bits: with 2^k items, index i gets the item from the index that has the k
- * bits of i in reversed order. The condition is that len is zero or a power of two.
+ * Reverses the order of count items, not bytes, by index bits: with 2^k items, index i gets the item from the index that
+ * has the k bits of i in reversed order. The condition is that count is zero or a power of two. The size of a list in bytes
+ * often is one too, so a call with `sizeof list` is taken, and runs out of bounds.
  */
-P3_UTIL_CHECK bool p3_util_reverse_1(void *vals, size_t len);
-P3_UTIL_CHECK bool p3_util_reverse_2(void *vals, size_t len);
-P3_UTIL_CHECK bool p3_util_reverse_4(void *vals, size_t len);
-P3_UTIL_CHECK bool p3_util_reverse_8(void *vals, size_t len);
-P3_UTIL_CHECK bool p3_util_reverse_12(void *vals, size_t len);
-P3_UTIL_CHECK bool p3_util_reverse_16(void *vals, size_t len);
-P3_UTIL_CHECK bool p3_util_reverse_20(void *vals, size_t len);
-P3_UTIL_CHECK bool p3_util_reverse_32(void *vals, size_t len);
-P3_UTIL_CHECK bool p3_util_reverse_64(void *vals, size_t len);
+P3_UTIL_CHECK bool p3_util_reverse_1(void *vals, size_t count);
+P3_UTIL_CHECK bool p3_util_reverse_2(void *vals, size_t count);
+P3_UTIL_CHECK bool p3_util_reverse_4(void *vals, size_t count);
+P3_UTIL_CHECK bool p3_util_reverse_8(void *vals, size_t count);
+P3_UTIL_CHECK bool p3_util_reverse_12(void *vals, size_t count);
+P3_UTIL_CHECK bool p3_util_reverse_16(void *vals, size_t count);
+P3_UTIL_CHECK bool p3_util_reverse_20(void *vals, size_t count);
+P3_UTIL_CHECK bool p3_util_reverse_32(void *vals, size_t count);
+P3_UTIL_CHECK bool p3_util_reverse_64(void *vals, size_t count);
 
 /*
  * Reverses the order of rows of row_width items by index bits, and moves each row as one item. The condition is that
- * len, the number of items, is zero or row_width times a power of two. Items of a size without a call of its own can be
- * moved as rows of smaller items: an item of 36 bytes is a row of three items of 12 bytes. If a call above has the size
- * of a row, that call is faster: for rows of 64 bytes use p3_util_reverse_64.
+ * count, the number of items in all rows, is zero or row_width times a power of two. Items of a size without a call of its
+ * own can be moved as rows of smaller items: an item of 36 bytes is a row of three items of 12 bytes. If a call above has
+ * the size of a row, that call is faster: for rows of 64 bytes use p3_util_reverse_64.
  */
-P3_UTIL_CHECK bool p3_util_reverse_rows_1(void *vals, size_t len, size_t row_width);
-P3_UTIL_CHECK bool p3_util_reverse_rows_2(void *vals, size_t len, size_t row_width);
-P3_UTIL_CHECK bool p3_util_reverse_rows_4(void *vals, size_t len, size_t row_width);
-P3_UTIL_CHECK bool p3_util_reverse_rows_8(void *vals, size_t len, size_t row_width);
-P3_UTIL_CHECK bool p3_util_reverse_rows_12(void *vals, size_t len, size_t row_width);
-P3_UTIL_CHECK bool p3_util_reverse_rows_16(void *vals, size_t len, size_t row_width);
-P3_UTIL_CHECK bool p3_util_reverse_rows_20(void *vals, size_t len, size_t row_width);
-P3_UTIL_CHECK bool p3_util_reverse_rows_32(void *vals, size_t len, size_t row_width);
-P3_UTIL_CHECK bool p3_util_reverse_rows_64(void *vals, size_t len, size_t row_width);
+P3_UTIL_CHECK bool p3_util_reverse_rows_1(void *vals, size_t count, size_t row_width);
+P3_UTIL_CHECK bool p3_util_reverse_rows_2(void *vals, size_t count, size_t row_width);
+P3_UTIL_CHECK bool p3_util_reverse_rows_4(void *vals, size_t count, size_t row_width);
+P3_UTIL_CHECK bool p3_util_reverse_rows_8(void *vals, size_t count, size_t row_width);
+P3_UTIL_CHECK bool p3_util_reverse_rows_12(void *vals, size_t count, size_t row_width);
+P3_UTIL_CHECK bool p3_util_reverse_rows_16(void *vals, size_t count, size_t row_width);
+P3_UTIL_CHECK bool p3_util_reverse_rows_20(void *vals, size_t count, size_t row_width);
+P3_UTIL_CHECK bool p3_util_reverse_rows_32(void *vals, size_t count, size_t row_width);
+P3_UTIL_CHECK bool p3_util_reverse_rows_64(void *vals, size_t count, size_t row_width);
 
 /*
  * Writes to output the transpose of input, a matrix of height rows of width items, stored row after row: item
- * y * width + x of the input becomes item x * height + y of the output. The condition is that both lengths are width
- * times height, and that this product does not wrap.
+ * y * width + x of the input becomes item x * height + y of the output. The call returns false if input_count or
+ * output_count is not width times height, or if this product does not fit into a size_t.
  */
-P3_UTIL_CHECK bool p3_util_transpose_1(const void *input, size_t input_len, void *output, size_t output_len,
+P3_UTIL_CHECK bool p3_util_transpose_1(const void *input, size_t input_count, void *output, size_t output_count,
     size_t width, size_t height);
-P3_UTIL_CHECK bool p3_util_transpose_2(const void *input, size_t input_len, void *output, size_t output_len,
+P3_UTIL_CHECK bool p3_util_transpose_2(const void *input, size_t input_count, void *output, size_t output_count,
     size_t width, size_t height);
-P3_UTIL_CHECK bool p3_util_transpose_4(const void *input, size_t input_len, void *output, size_t output_len,
+P3_UTIL_CHECK bool p3_util_transpose_4(const void *input, size_t input_count, void *output, size_t output_count,
     size_t width, size_t height);
-P3_UTIL_CHECK bool p3_util_transpose_8(const void *input, size_t input_len, void *output, size_t output_len,
+P3_UTIL_CHECK bool p3_util_transpose_8(const void *input, size_t input_count, void *output, size_t output_count,
     size_t width, size_t height);
-P3_UTIL_CHECK bool p3_util_transpose_12(const void *input, size_t input_len, void *output, size_t output_len,
+P3_UTIL_CHECK bool p3_util_transpose_12(const void *input, size_t input_count, void *output, size_t output_count,
     size_t width, size_t height);
-P3_UTIL_CHECK bool p3_util_transpose_16(const void *input, size_t input_len, void *output, size_t output_len,
+P3_UTIL_CHECK bool p3_util_transpose_16(const void *input, size_t input_count, void *output, size_t output_count,
     size_t width, size_t height);
-P3_UTIL_CHECK bool p3_util_transpose_20(const void *input, size_t input_len, void *output, size_t output_len,
+P3_UTIL_CHECK bool p3_util_transpose_20(const void *input, size_t input_count, void *output, size_t output_count,
     size_t width, size_t height);
-P3_UTIL_CHECK bool p3_util_transpose_32(const void *input, size_t input_len, void *output, size_t output_len,
+P3_UTIL_CHECK bool p3_util_transpose_32(const void *input, size_t input_count, void *output, size_t output_count,
     size_t width, size_t height);
-P3_UTIL_CHECK bool p3_util_transpose_64(const void *input, size_t input_len, void *output, size_t output_len,
+P3_UTIL_CHECK bool p3_util_transpose_64(const void *input, size_t input_count, void *output, size_t output_count,
     size_t width, size_t height);
 
 /* Returns the least e with n <= 2^e. For n = 0 and n = 1 it returns 0. */
