@@ -129,9 +129,9 @@ pub use bits::{log2_strict_usize, log3_strict_usize, reverse_bits, reverse_bits_
 #[doc(inline)]
 pub use kernels::chunks::apply_to_chunks;
 #[cfg(target_pointer_width = "64")]
-#[doc(alias("rayon", "threads"))]
+#[doc(alias("parallel", "rayon", "threads"))]
 pub use slices::parts;
-#[doc(alias("bit_reversal", "bit_reverse_permutation", "matrix", "ntt", "reverse"))]
+#[doc(alias("bit reversal", "bit_reversal", "bit_reverse_permutation", "fft", "matrix", "ntt", "reverse"))]
 pub use slices::{reverse_slice_index_bits, reverse_slice_row_index_bits};
 
 /// Does nothing, but a call compiles only if `T` is `Send`.
