@@ -3,8 +3,6 @@
 
 ghost use Rattle.std.specs.Prelude.{◌≡◌, ◌≢◌, ℕ, ◌*◌, ◌^◌, ◌<◌, length, slice_get};
 ghost use Rattle.p3_util_kernels.specs.Region.{IsReady, IsRegionTransposed, items_of};
-ghost use Rattle.p3_util_kernels.specs.Reversal.{FitsRows, IsRowReversal};
-ghost use Rattle.p3_util_kernels.specs.SwapCounts.{row_swaps};
 ghost use Rattle.p3_util_kernels.specs.Transpose.{IsTranspose};
 
 use crate::choice::{
@@ -12,8 +10,7 @@ use crate::choice::{
     has_lines, row_blocks_of, side_of, strips_of,
 };
 use crate::lines::Lines;
-use p3_util_fast::bulk::{Ahead, Blocked, Tiled};
-use p3_util_fast::rows::RowDigits;
+use p3_util_fast::bulk::{Ahead, Blocked};
 use p3_util_fast::strips::UNIT;
 use p3_util_fast::ways::{
     Blocks, Columns, InCols, InRows, PutColumn, PutRegion, ShortColumns, put_as_block,
@@ -321,15 +318,4 @@ pub(crate) fn transpose_region<M: Output, R: Ahead<Item = M::Item> + Copy>(
     } else {
         put_region(cells, matrix, region)
     }
-}
-
-/// Reverses the order of rows of `row_width` items by index bits.
-#[inline(always)]
-pub(crate) fn reverse_rows<M: Tiled>(items: M, row_width: usize) -> M
-    requires { FitsRows (length (M.items items)) row_width }
-    ensures order { IsRowReversal row_width (M.items items) (M.items result) }
-    ensures holder { M.same_holder (row_swaps (length (M.items items)) row_width) items result }
-{
-    let rows = RowDigits::of(items.len(), row_width);
-    p3_util_fast::rows::reverse_rows(items, rows)
 }

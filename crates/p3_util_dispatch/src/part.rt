@@ -5,9 +5,10 @@ ghost use Rattle.p3_util_kernels.specs.Region.{IsRegionTransposed, items_of};
 ghost use Rattle.p3_util_dispatch.specs.Interleaved.{region_of};
 ghost use Rattle.p3_util_dispatch.specs.Plans.{IsPartMade, IsReversalPlan};
 
-use crate::calls::{Output, reverse_rows, transpose_region};
+use crate::calls::{Output, transpose_region};
 use crate::parts::{Part, ReversalPlan, TransposePlan, Work};
 use p3_util_fast::bulk::{Ahead, Tiled};
+use p3_util_fast::rows::reverse_rows;
 
 /// Puts the region of a part.
 #[inline(never)]

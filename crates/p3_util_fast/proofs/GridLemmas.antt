@@ -5,4 +5,3 @@ pub mod Mirrored
 pub mod Parts
 pub mod Rows
 pub mod SquareCounts
-pub mod Squares

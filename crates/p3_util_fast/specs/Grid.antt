@@ -1,8 +1,7 @@
--- Squares of a list whose rows are in order or in bit-reversed order, exchanged across the diagonal.
+-- Squares of a list whose rows are in bit-reversed order, exchanged across the diagonal.
 -- These definitions serve the private contracts of `src/grid.rt`. Source: new.
-use Rattle.std.specs.Prelude.{ℕ, ◌≡◌, ◌+◌, ◌*◌, ◌/◌, ◌%◌, ◌^◌, ◌<◌, ◌≤◌, ◌⊎◌, true, min, max, List, length, if◌then◌else◌}
+use Rattle.std.specs.Prelude.{ℕ, ◌≡◌, ◌+◌, ◌*◌, ◌/◌, ◌%◌, ◌^◌, ◌<◌, ◌≤◌, ◌⊎◌, min, max, List, length}
 use Rattle.p3_util_fast.specs.declared.grid.Grid.{Grid}
-use Rattle.p3_util_fast.specs.declared.grid.RowDistances.{RowDistances}
 use Rattle.p3_util_kernels.specs.declared.transpose.region.Region.{Region}
 use Rattle.p3_util_kernels.specs.Digits.{rev}
 use Rattle.p3_util_fast.specs.Mirrored.{Mirrored}
@@ -10,7 +9,7 @@ use Rattle.p3_util_kernels.specs.Region.{IsInRegion}
 
 -- the place at which row x of the grid begins
 unfoldable pub row_place : (grid : Grid) (x : ℕ) → ℕ
-row_place grid x = grid.base + (if grid.reversed then rev grid.digits x else x) * grid.stride
+row_place grid x = grid.base + rev grid.digits x * grid.stride
 
 -- all places of the grid fit in a usize
 pub record PlacesFit (grid : Grid) : Type 0 where
@@ -26,12 +25,12 @@ pub record IsInFirstRow (grid : Grid) (p : ℕ) : Type 0 where
   pub y_below : y < 2 ^ grid.digits
   pub is : p ≡ row_place grid x + y
 
--- for the 8 rows from row x on, where 8 divides x: how far from row x they begin. Each binary digit
--- of the number of a row adds its own distance
-abbrev pub AreRowDistances : (grid : Grid) (distances : RowDistances) → Type 0
-AreRowDistances grid distances =
+-- for the 8 rows from row x on, where 8 divides x: the binary digits of the number of a row, in reversed order, say how
+-- often its distance from row x has the distance of row x + 4
+abbrev pub IsRowDistance : (grid : Grid) (distance : ℕ) → Type 0
+IsRowDistance grid distance =
     (x t : ℕ) → x % 8 ≡ 0 → x + 8 ≤ 2 ^ grid.digits → t < 8
-    → row_place grid (x + t) ≡ row_place grid x + (t % 2 * distances.one + t / 2 % 2 * distances.two + t / 4 * distances.four)
+    → row_place grid (x + t) ≡ row_place grid x + (t % 2 * 4 + t / 2 % 2 * 2 + t / 4) * distance
 
 -- A place of the grid is the index of a run of `width` items. For all a and b that are different and
 -- whose lesser one is a row and whose greater one is a column of the region, the items of row a and
@@ -59,4 +58,4 @@ pub record HoldsGrid {A : Type 0} (grid : Grid) (items : List A) : Type 0 where
 -- `middle` between its `half` high and its `half` low bits: row x and column y of the grid are the row
 -- whose index has x reversed, `middle` and y
 abbrev pub grid_of_rows : (half c row_width middle : ℕ) → Grid
-grid_of_rows half c row_width middle = record { width = row_width; base = middle * 2 ^ half; stride = 2 ^ c; digits = half; reversed = true }
+grid_of_rows half c row_width middle = record { width = row_width; base = middle * 2 ^ half; stride = 2 ^ c; digits = half }

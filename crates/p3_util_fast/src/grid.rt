@@ -1,15 +1,14 @@
 //! Squares of a list, and the exchange of their items across the diagonal.
 //!
 //! A *grid* is a square with 2^k rows and columns. Its row `x` begins at a place of the list, and
-//! the row's other places follow this one. The rows lie in the list one after another at equal
-//! distances, either in order or in bit-reversed order. So the place of row `x` and column `y` is
-//! `base + order(x) * stride + y`, where `order(x)` is `x`, or `x` with its k binary digits in
-//! reversed order.
+//! the row's other places follow this one. The rows lie in the list at equal distances, in
+//! bit-reversed order. So the place of row `x` and column `y` is `base + rev(x) * stride + y`, where
+//! `rev(x)` is `x` with its k binary digits in reversed order.
 //!
 //! The place of row `x` and column `y` is exchanged with the place of row `y` and column `x`, for
-//! all `x < y`. If the rows are in order, this transposes the square. If they are in bit-reversed
-//! order, it reverses the list by index bits, as the module [`reverse`](crate::reverse) explains. If
-//! the list consists of runs of `width` items, such as rows, a place of the grid is the index of a run.
+//! all `x < y`. This reverses the list by index bits, as the module [`rows`](crate::rows) explains.
+//! If the list consists of runs of `width` items, such as rows, a place of the grid is the index of a
+//! run.
 //!
 //! The exchanges are made in the order of nested squares, down to *tiles* of 8 rows and columns. So
 //! the items of a tile, which lie in a few cache lines, are exchanged together.
@@ -17,7 +16,7 @@
 ghost use Rattle.std.specs.Prelude.{◌≡◌, ◌≢◌, ℕ, ◌+◌, ◌-◌, ◌*◌, ◌/◌, ◌%◌, ◌^◌, ◌<◌, ◌≤◌, length, slice_index};
 ghost use Rattle.p3_util_kernels.specs.Digits.{rev};
 ghost use Rattle.p3_util_kernels.specs.Exchanged.{RunsExchanged};
-ghost use Rattle.p3_util_fast.specs.Grid.{AreRowDistances, HoldsGrid, IsInFirstRow, PlacesFit, SwapsInGrid, row_place, square_at};
+ghost use Rattle.p3_util_fast.specs.Grid.{HoldsGrid, IsInFirstRow, IsRowDistance, PlacesFit, SwapsInGrid, row_place, square_at};
 ghost use Rattle.p3_util_kernels.specs.Region.{cols_of, items_of};
 ghost use Rattle.p3_util_kernels.specs.SwapCounts.{square_swaps};
 
@@ -43,54 +42,29 @@ pub struct Grid {
     /// How far apart neighbouring rows of the list begin.
     pub stride: usize,
     pub digits: usize,
-    /// Whether the rows are in bit-reversed order.
-    pub reversed: bool,
-}
-
-/// How far from row `x` the rows `x + 1`, `x + 2` and `x + 4` begin, if 8 divides `x`.
-struct RowDistances {
-    one: usize,
-    two: usize,
-    four: usize,
 }
 
 impl Grid {
     /// The place at which row `x` begins.
     #[inline(always)]
+    #[tactic(auto, unfolding(crate::specs::Grid::row_place))]
     fn start(self, x: usize) -> usize
         requires fits { PlacesFit self }
         requires below { x < 2 ^ self.digits }
         ensures { result ≡ row_place self x }
     {
-        let row = if self.reversed {
-            reverse_digits(x, self.digits)
-        } else {
-            x
-        };
-        self.base + row * self.stride
+        self.base + reverse_digits(x, self.digits) * self.stride
     }
 
-    /// How far apart the rows of a tile begin.
+    /// How far from row `x` row `x + 4` begins, if 8 divides `x`. `_first` is a place of row `x`.
     #[inline(always)]
-    fn row_distances(self) -> RowDistances
+    fn row_distance(self, _first: usize) -> usize
         requires fits { PlacesFit self }
-        requires some { 8 ≤ 2 ^ self.digits }
-        ensures { AreRowDistances self result }
+        requires tile { IsInFirstRow self _first }
+        ensures rows { IsRowDistance self result }
+        ensures room { _first + 7 * result < 2 ^ 64 }
     {
-        if self.reversed {
-            let four = self.stride * pow2(self.digits - 3);
-            RowDistances {
-                one: 4 * four,
-                two: 2 * four,
-                four,
-            }
-        } else {
-            RowDistances {
-                one: self.stride,
-                two: 2 * self.stride,
-                four: 4 * self.stride,
-            }
-        }
+        self.stride * pow2(self.digits - 3)
     }
 
     /// The places of one column in the 8 rows of a tile. `first` is the place in the first of these
@@ -104,7 +78,8 @@ impl Grid {
     {
         // If 8 divides `x`, row `x + t` begins as far from row `x` as these distances say, one for each
         // binary digit of `t` that is set.
-        let RowDistances { one, two, four } = self.row_distances();
+        let four = self.row_distance(first);
+        let (one, two) = (4 * four, 2 * four);
         let middle = first + four;
         [
             first,

@@ -21,7 +21,7 @@
 ghost use Rattle.std.specs.Prelude.{◌≡◌, ℕ, ◌+◌, ◌-◌, ◌*◌, ◌/◌, ◌^◌, ◌<◌, ◌≤◌, length};
 ghost use Rattle.p3_util_fast.specs.Grid.{grid_of_rows};
 ghost use Rattle.p3_util_kernels.specs.Logarithms.{clog};
-ghost use Rattle.p3_util_kernels.specs.Reversal.{FitsRows, IsReversal, IsReversible, IsRowReversal};
+ghost use Rattle.p3_util_kernels.specs.Reversal.{FitsRows, IsRowReversal};
 ghost use Rattle.p3_util_kernels.specs.SwapCounts.{row_swaps, short_swaps};
 
 use crate::bulk::Tiled;
@@ -69,33 +69,19 @@ impl RowDigits {
             base: middle * pow2(half),
             stride: pow2(self.digits - half),
             digits: half,
-            reversed: true,
         }
     }
 }
 
-/// The kernel of [`reverse_index_bits_short`](crate::reverse::reverse_index_bits_short).
+/// Reverses the order of rows of `row_width` items by index bits.
 #[inline(always)]
 #[doc(hidden)]
-pub fn reverse_short<M: Tiled>(m: M) -> M
-    requires { IsReversible (length (M.items m)) }
-    ensures order { IsReversal (M.items m) (M.items result) }
-    ensures holder { M.same_holder (short_swaps (clog (length (M.items m)))) m result }
+pub fn reverse_rows<M: Tiled>(m: M, row_width: usize) -> M
+    requires { FitsRows (length (M.items m)) row_width }
+    ensures order { IsRowReversal row_width (M.items m) (M.items result) }
+    ensures holder { M.same_holder (row_swaps (length (M.items m)) row_width) m result }
 {
-    let rows = RowDigits::of(m.len(), 1);
-    reverse_rows(m, rows)
-}
-
-/// The kernel of [`reverse_row_index_bits_on`](crate::reverse::reverse_row_index_bits_on).
-#[inline(always)]
-#[doc(hidden)]
-pub fn reverse_rows<M: Tiled>(m: M, rows: RowDigits) -> M
-    requires fits { FitsRows (length (M.items m)) rows.width }
-    requires digits { rows.digits ≡ clog (length (M.items m) / rows.width) }
-    requires len_fits { length (M.items m) < 2 ^ 64 }
-    ensures order { IsRowReversal rows.width (M.items m) (M.items result) }
-    ensures holder { M.same_holder (row_swaps (length (M.items m)) rows.width) m result }
-{
+    let rows = RowDigits::of(m.len(), row_width);
     // In the cases with a fixed number of digits, the compiler unrolls the exchanges of all pairs.
     // Each further case would be one more copy of these exchanges. With too many copies, Rattle's
     // compiler no longer inlines this function.

@@ -10,7 +10,7 @@ mod order;
 mod split;
 
 use crate::bulk::Ahead;
-use crate::rows::{RowDigits, reverse_rows, reverse_short};
+use crate::rows::reverse_rows;
 use matrix::transpose_by_shape;
 use p3_util_kernels::places::{SliceCells, SlicePlaces, SliceSource};
 use p3_util_kernels::transpose::Matrix;
@@ -20,7 +20,7 @@ use p3_util_kernels::transpose::Matrix;
 ///
 /// With 2^k items, index `i` gets the item from the index that has the k bits of `i` in reversed
 /// order. A second call restores the original order. No item is cloned or dropped.
-#[tactic(auto, using(p3_util_kernels::proofs::ReverseLemmas::Reversal::reversed_place))]
+#[tactic(auto, using(p3_util_kernels::proofs::ReverseLemmas::Reversal::reversed_place, p3_util_kernels::proofs::ReverseLemmas::Lengths::rows_of_one))]
 pub fn reverse_slice_index_bits<F>(vals: &mut [F])
     requires { IsReversible (length vals.old) }
     ensures order { IsReversal vals.old vals.new }
@@ -28,7 +28,7 @@ pub fn reverse_slice_index_bits<F>(vals: &mut [F])
     ensures at { (k i : ℕ) → length vals.old ≡ 2 ^ k → i < 2 ^ k
         → slice_get vals.new i ≡ slice_get vals.old (rev k i) }
 {
-    let _ = reverse_items(vals);
+    let _ = reverse_items(vals, 1);
 }
 
 /// Reverses the order of the rows of `vals` by index bits, and does not check the length: the rows
@@ -44,7 +44,7 @@ pub fn reverse_slice_row_index_bits<F>(vals: &mut [F], row_width: usize)
     ensures at { (k r j : ℕ) → length vals.old ≡ row_width * 2 ^ k → r < 2 ^ k → j < row_width
         → slice_get vals.new (r * row_width + j) ≡ slice_get vals.old (rev k r * row_width + j) }
 {
-    let _ = reverse_rows_of_items(vals, row_width);
+    let _ = reverse_items(vals, row_width);
 }
 
 /// Transposes `input`, a matrix of `height` rows of `width` items, into `output`, and does not check
@@ -62,29 +62,17 @@ pub fn transpose<T: Copy>(input: &[T], output: &mut [T], width: usize, height: u
     let _ = transpose_items(Matrix::new(SliceSource::new(input), width, height), output);
 }
 
-/// Runs the kernel on a holder of the slice and returns the slice. The kernel takes the holder by
-/// value. After that, a proof knows nothing about the slice that the holder borrowed. So the
-/// contract is about the slice that is returned, and says by `ghost_name` that this is the slice
-/// `vals`.
+/// Runs the kernel on a holder of the slice, and returns the slice. Single items are rows of one
+/// item. The kernel takes the holder by value. After that, a proof knows nothing about the slice that
+/// the holder borrowed. So the contract is about the slice that is returned, and says by `ghost_name`
+/// that this is the slice `vals`.
 #[inline(always)]
-fn reverse_items<F>(vals: &mut [F]) -> &mut [F]
-    requires { IsReversible (length vals.old) }
-    ensures order { IsReversal vals.old result.now }
-    ensures slice { result.ghost_name ≡ vals.entry.ghost_name }
-{
-    let SlicePlaces { items } = reverse_short(SlicePlaces::new(vals));
-    items
-}
-
-/// Does the same as [`reverse_items`], for rows.
-#[inline(always)]
-fn reverse_rows_of_items<F>(vals: &mut [F], row_width: usize) -> &mut [F]
+fn reverse_items<F>(vals: &mut [F], row_width: usize) -> &mut [F]
     requires { FitsRows (length vals.old) row_width }
     ensures order { IsRowReversal row_width vals.old result.now }
     ensures slice { result.ghost_name ≡ vals.entry.ghost_name }
 {
-    let rows = RowDigits::of(vals.len(), row_width);
-    let SlicePlaces { items } = reverse_rows(SlicePlaces::new(vals), rows);
+    let SlicePlaces { items } = reverse_rows(SlicePlaces::new(vals), row_width);
     items
 }
 

@@ -9,8 +9,7 @@ use crate::kernels::choice::{
     has_lines, row_blocks_of, side_of, strips_of,
 };
 use crate::kernels::lines::Lines;
-use crate::kernels::bulk::{Ahead, Blocked, Tiled};
-use crate::kernels::rows::RowDigits;
+use crate::kernels::bulk::{Ahead, Blocked};
 use crate::kernels::strips::UNIT;
 use crate::kernels::ways::{
     Blocks, Columns, InCols, InRows, PutColumn, PutRegion, ShortColumns, put_as_block,
@@ -259,11 +258,4 @@ pub(crate) fn transpose_region<M: Output, R: Ahead<Item = M::Item> + Copy>(
     } else {
         put_region(cells, matrix, region)
     }
-}
-
-/// Reverses the order of rows of `row_width` items by index bits.
-#[inline(always)]
-pub(crate) fn reverse_rows<M: Tiled>(items: M, row_width: usize) -> M {
-    let rows = RowDigits::of(items.len(), row_width);
-    crate::kernels::rows::reverse_rows(items, rows)
 }

@@ -2,15 +2,14 @@
 //! Squares of a list, and the exchange of their items across the diagonal.
 //!
 //! A *grid* is a square with 2^k rows and columns. Its row `x` begins at a place of the list, and
-//! the row's other places follow this one. The rows lie in the list one after another at equal
-//! distances, either in order or in bit-reversed order. So the place of row `x` and column `y` is
-//! `base + order(x) * stride + y`, where `order(x)` is `x`, or `x` with its k binary digits in
-//! reversed order.
+//! the row's other places follow this one. The rows lie in the list at equal distances, in
+//! bit-reversed order. So the place of row `x` and column `y` is `base + rev(x) * stride + y`, where
+//! `rev(x)` is `x` with its k binary digits in reversed order.
 //!
 //! The place of row `x` and column `y` is exchanged with the place of row `y` and column `x`, for
-//! all `x < y`. If the rows are in order, this transposes the square. If they are in bit-reversed
-//! order, it reverses the list by index bits, as the module [`reverse`](crate::kernels::reverse) explains. If
-//! the list consists of runs of `width` items, such as rows, a place of the grid is the index of a run.
+//! all `x < y`. This reverses the list by index bits, as the module [`rows`](crate::kernels::rows) explains.
+//! If the list consists of runs of `width` items, such as rows, a place of the grid is the index of a
+//! run.
 //!
 //! The exchanges are made in the order of nested squares, down to *tiles* of 8 rows and columns. So
 //! the items of a tile, which lie in a few cache lines, are exchanged together.
@@ -37,46 +36,19 @@ pub(crate) struct Grid {
     /// How far apart neighbouring rows of the list begin.
     pub stride: usize,
     pub digits: usize,
-    /// Whether the rows are in bit-reversed order.
-    pub reversed: bool,
-}
-
-/// How far from row `x` the rows `x + 1`, `x + 2` and `x + 4` begin, if 8 divides `x`.
-struct RowDistances {
-    one: usize,
-    two: usize,
-    four: usize,
 }
 
 impl Grid {
     /// The place at which row `x` begins.
     #[inline(always)]
     fn start(self, x: usize) -> usize {
-        let row = if self.reversed {
-            reverse_digits(x, self.digits)
-        } else {
-            x
-        };
-        self.base + row * self.stride
+        self.base + reverse_digits(x, self.digits) * self.stride
     }
 
-    /// How far apart the rows of a tile begin.
+    /// How far from row `x` row `x + 4` begins, if 8 divides `x`. `_first` is a place of row `x`.
     #[inline(always)]
-    fn row_distances(self) -> RowDistances {
-        if self.reversed {
-            let four = self.stride * pow2(self.digits - 3);
-            RowDistances {
-                one: 4 * four,
-                two: 2 * four,
-                four,
-            }
-        } else {
-            RowDistances {
-                one: self.stride,
-                two: 2 * self.stride,
-                four: 4 * self.stride,
-            }
-        }
+    fn row_distance(self, _first: usize) -> usize {
+        self.stride * pow2(self.digits - 3)
     }
 
     /// The places of one column in the 8 rows of a tile. `first` is the place in the first of these
@@ -85,7 +57,8 @@ impl Grid {
     fn tile_rows(self, first: usize) -> [usize; 8] {
         // If 8 divides `x`, row `x + t` begins as far from row `x` as these distances say, one for each
         // binary digit of `t` that is set.
-        let RowDistances { one, two, four } = self.row_distances();
+        let four = self.row_distance(first);
+        let (one, two) = (4 * four, 2 * four);
         let middle = first + four;
         [
             first,

@@ -53,21 +53,14 @@ impl RowDigits {
             base: middle * pow2(half),
             stride: pow2(self.digits - half),
             digits: half,
-            reversed: true,
         }
     }
 }
 
-/// The kernel of [`reverse_index_bits_short`](crate::kernels::reverse::reverse_index_bits_short).
+/// Reverses the order of rows of `row_width` items by index bits.
 #[inline(always)]
-pub(crate) fn reverse_short<M: Tiled>(m: M) -> M {
-    let rows = RowDigits::of(m.len(), 1);
-    reverse_rows(m, rows)
-}
-
-/// The kernel of [`reverse_row_index_bits_on`](crate::kernels::reverse::reverse_row_index_bits_on).
-#[inline(always)]
-pub(crate) fn reverse_rows<M: Tiled>(m: M, rows: RowDigits) -> M {
+pub(crate) fn reverse_rows<M: Tiled>(m: M, row_width: usize) -> M {
+    let rows = RowDigits::of(m.len(), row_width);
     // In the cases with a fixed number of digits, the compiler unrolls the exchanges of all pairs.
     // Each further case would be one more copy of these exchanges. With too many copies, Rattle's
     // compiler no longer inlines this function.

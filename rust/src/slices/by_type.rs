@@ -3,7 +3,7 @@
 
 use crate::kernels::bulk::Tiled;
 pub(super) use crate::kernels::calls::transpose_whole;
-use crate::kernels::rows::reverse_short;
+use crate::kernels::rows;
 use crate::width::Index;
 #[cfg(target_pointer_width = "64")]
 pub(super) use in_parts::{Sizes, reverse_part, transpose_part};
@@ -11,13 +11,13 @@ pub(super) use in_parts::{Sizes, reverse_part, transpose_part};
 /// Reverses the order of items by index bits.
 #[inline(never)]
 pub(super) fn reverse(items: impl Tiled) {
-    let _ = reverse_short(items);
+    let _ = rows::reverse_rows(items, 1);
 }
 
 /// Reverses the order of rows by index bits.
 #[inline(never)]
 pub(super) fn reverse_rows(items: impl Tiled, row_width: Index) {
-    let _ = crate::kernels::calls::reverse_rows(items, row_width);
+    let _ = rows::reverse_rows(items, row_width);
 }
 
 #[cfg(target_pointer_width = "64")]

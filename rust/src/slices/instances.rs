@@ -12,8 +12,7 @@ use crate::kernels::bulk::Tiled;
 use crate::kernels::bytes::{self, ByteInstances, Instances, is_run};
 use crate::kernels::parts::{Part, ReversalPlan, RowPairs, TransposePlan};
 use crate::kernels::registers::{Pair, Two};
-use crate::kernels::rows::reverse_short;
-use crate::kernels::{calls, part};
+use crate::kernels::{calls, part, rows};
 
 /// `by_size!(size)` is whether the size is in this table. `by_size!(size, holder = list => call, _ => other)` is `call` if
 /// it is, and otherwise `other`. In `call`, `holder` is the holder of the list as items of this size.
@@ -65,14 +64,14 @@ pub(super) fn reverse_rows<F>(items: SliceItems<F>, row_width: usize) {
 /// Reverses the order of items by index bits.
 #[inline(never)]
 fn reverse_holder(items: impl Tiled) {
-    let _ = reverse_short(items);
+    let _ = rows::reverse_rows(items, 1);
 }
 
 /// Reverses the order of rows by index bits. Not inlined, or [`ByteInstances::reverse`] would save registers even where it does
 /// not run this.
 #[inline(never)]
 fn reverse_rows_of_holder(items: impl Tiled, row_width: usize) {
-    let _ = calls::reverse_rows(items, row_width);
+    let _ = rows::reverse_rows(items, row_width);
 }
 
 #[inline(always)]

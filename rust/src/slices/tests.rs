@@ -22,7 +22,6 @@ use crate::kernels::bulk::Ahead;
 use crate::kernels::bulk::{Block, Blocked, Tiled};
 use crate::kernels::bytes::plan_in_bytes;
 use crate::kernels::choice::Limits;
-use crate::kernels::grid::{Grid, exchange_square};
 use crate::kernels::places::{Cells, Places, Source};
 #[cfg(not(feature = "checked"))]
 use crate::kernels::registers::blocks::LinesOfCells;
@@ -257,31 +256,6 @@ fn hint_changes_nothing<T: Debug + PartialEq, H: for<'a> Hold<'a, T>>(item: impl
     );
 }
 
-/// Transposes squares of the items that `item` makes.
-fn turns_of_squares<T: Debug + PartialEq, H: for<'a> Hold<'a, T>>(item: impl Fn(usize) -> T) {
-    for (log_size, log_stride) in (0..=6).flat_map(|size| (size..=7).map(move |stride| (size, stride))) {
-        let (base, size, stride) = (log_size + log_stride, 1 << log_size, 1 << log_stride);
-        leaves::<T, H>(
-            base + size * stride + 1,
-            &item,
-            |places| {
-                let square = Grid {
-                    width: 1,
-                    base,
-                    stride,
-                    digits: log_size,
-                    reversed: false,
-                };
-                let _ = exchange_square(places, square, log_size < 3);
-            },
-            |place| match place.checked_sub(base).map(|place| (place / stride, place % stride)) {
-                Some((row, col)) if row < size && col < size => base + col * stride + row,
-                _ => place,
-            },
-        );
-    }
-}
-
 fn turns<T: Debug + PartialEq + 'static>(item: impl Fn(usize) -> T) {
     of_each_holder!(T, Holder => {
         for tiles in [0, 1, 2].map(Tiles::apart) {
@@ -289,7 +263,6 @@ fn turns<T: Debug + PartialEq + 'static>(item: impl Fn(usize) -> T) {
             turns_tile::<T, Holder>(&item, &tiles);
             hint_changes_nothing::<T, Holder>(&item, &tiles);
         }
-        turns_of_squares::<T, Holder>(&item);
     });
 }
 

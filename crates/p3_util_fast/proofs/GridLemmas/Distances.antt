@@ -1,10 +1,9 @@
 -- How far apart the 8 rows of a tile begin.
-use Rattle.std.proofs.Common.{◌≡◌, ℕ, zero, suc, true, false, ◌==◌, ◌+◌, ◌-◌, ◌*◌, ◌/◌, ◌%◌, ◌^◌, ◌<◌, ◌≤◌, [], ◌∷◌, slice_index, refl, ap, ◌∙◌, eqb-true, div-add-mod', arith}
+use Rattle.std.proofs.Common.{◌≡◌, ℕ, zero, suc, ◌==◌, ◌+◌, ◌-◌, ◌*◌, ◌/◌, ◌%◌, ◌^◌, ◌<◌, ◌≤◌, [], ◌∷◌, slice_index, refl, ap, ◌∙◌, eqb-true, div-add-mod', arith}
 use Rattle.p3_util_fast.specs.declared.grid.Grid.{Grid}
-use Rattle.p3_util_fast.specs.declared.grid.RowDistances.{RowDistances}
 use Rattle.p3_util_kernels.specs.Digits.{rev}
 use Rattle.p3_util_kernels.specs.Sums.{sum_below}
-use Rattle.p3_util_fast.specs.Grid.{AreRowDistances, IsInFirstRow, PlacesFit, row_place}
+use Rattle.p3_util_fast.specs.Grid.{IsInFirstRow, IsRowDistance, PlacesFit, row_place}
 use Rattle.p3_util_kernels.proofs.BitsLemmas.Digits.{rev-of-zero, rev-parts}
 use Rattle.p3_util_kernels.proofs.BitsLemmas.Powers.{exponent-le}
 use Rattle.p3_util_kernels.proofs.BitsLemmas.Tables.{all_below, all_below-at}
@@ -15,26 +14,16 @@ unfolding all_below rev sum_below
 rev_three t h = eqb-true _ _ (all_below-at (λ t. rev 3 t == t % 2 * 4 + t / 2 % 2 * 2 + t / 4) 8 t refl h)
 
 -- where a row begins
-pub in_order : (grid : Grid) (x : ℕ) → grid.reversed ≡ false → row_place grid x ≡ grid.base + x * grid.stride
+pub turned : (grid : Grid) (x : ℕ) → row_place grid x ≡ grid.base + rev grid.digits x * grid.stride
 unfolding row_place
-in_order grid x e = rw e refl
-
-pub turned : (grid : Grid) (x : ℕ) → grid.reversed ≡ true → row_place grid x ≡ grid.base + rev grid.digits x * grid.stride
-unfolding row_place
-turned grid x e = rw e refl
-
-pub AreRowDistances-in_order : (grid : Grid) → grid.reversed ≡ false → AreRowDistances grid (record { one = grid.stride; two = 2 * grid.stride; four = 4 * grid.stride })
-AreRowDistances-in_order grid e x t whole room less =
-    let digits : t ≡ t % 2 + t / 2 % 2 * 2 + t / 4 * 4 = omega arith in
-    let parts : t * grid.stride ≡ t % 2 * grid.stride + t / 2 % 2 * (2 * grid.stride) + t / 4 * (4 * grid.stride) = ap (λ n. n * grid.stride) digits ∙ omega arith in
-    omega (arith, in_order grid (x + t) e, in_order grid x e, parts)
+turned grid x = refl
 
 -- a tile has 8 rows, so their numbers have at least 3 digits
 pub three : (digits : ℕ) → 8 ≤ 2 ^ digits → 3 ≤ digits
 three digits h = exponent-le 3 digits h
 
-pub AreRowDistances-reversed : (grid : Grid) (step : ℕ) → grid.reversed ≡ true → step ≡ grid.stride * 2 ^ (grid.digits - 3) → AreRowDistances grid (record { one = 4 * step; two = 2 * step; four = step })
-AreRowDistances-reversed grid step e is x t whole room less =
+pub IsRowDistance-reversed : (grid : Grid) (step : ℕ) → step ≡ grid.stride * 2 ^ (grid.digits - 3) → IsRowDistance grid step
+IsRowDistance-reversed grid step is x t whole room less =
     let d = grid.digits in
     let some : 3 ≤ d = three d (omega arith) in
     let all : d - 3 + 3 ≡ d = omega arith in
@@ -46,12 +35,11 @@ AreRowDistances-reversed grid step e is x t whole room less =
     let start : rev d x ≡ rev (d - 3) (x / 8) = omega (arith, rw none at first) in
     let far : rev d (x + t) ≡ (t % 2 * 4 + t / 2 % 2 * 2 + t / 4) * 2 ^ (d - 3) + rev d x = rw start (here ∙ rw (rev_three t less) refl) in
     let scaled : rev d (x + t) * grid.stride ≡ rev d x * grid.stride + (t % 2 * 4 + t / 2 % 2 * 2 + t / 4) * (grid.stride * 2 ^ (d - 3)) = ap (λ n. n * grid.stride) far ∙ omega arith in
-    let steps : (t % 2 * 4 + t / 2 % 2 * 2 + t / 4) * step ≡ t % 2 * (4 * step) + t / 2 % 2 * (2 * step) + t / 4 * step = omega arith in
-    omega (arith, turned grid (x + t) e, turned grid x e, rw (← is) at scaled, steps)
+    omega (arith, turned grid (x + t), turned grid x, rw (← is) at scaled)
 
 -- the last of the 8 rows fits in a usize, and so do the others
-pub last_fits : (grid : Grid) (d : RowDistances) (first : ℕ) → PlacesFit grid → AreRowDistances grid d → IsInFirstRow grid first → first + d.one + d.two + d.four < 2 ^ 64
-last_fits grid d first fits are at =
+pub last_fits : (grid : Grid) (step first : ℕ) → PlacesFit grid → IsRowDistance grid step → IsInFirstRow grid first → first + 7 * step < 2 ^ 64
+last_fits grid step first fits are at =
     omega (arith, at, are at.x 7 at.whole at.x_below (omega arith), fits.rows (at.x + 7) (omega (arith, at.x_below)))
 
 -- a list of 8 numbers, entry by entry

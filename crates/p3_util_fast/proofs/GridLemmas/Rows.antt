@@ -16,7 +16,7 @@ module _ (half c row_width middle : ℕ) (within : half ≤ c) (below : middle <
 
   -- the place of row x and column y is the row whose index has these parts
   pub place-row : (x y : ℕ) → row_place (grid_of_rows half c row_width middle) x + y ≡ row_of half c middle x y
-  place-row x y = omega (arith, turned grid x refl)
+  place-row x y = omega (arith, turned grid x)
 
   -- the grid's columns are part of a row of the list
   columns : middle * 2 ^ half + 2 ^ half ≤ 2 ^ c
@@ -26,7 +26,7 @@ module _ (half c row_width middle : ℕ) (within : half ≤ c) (below : middle <
   later : (a b : ℕ) → rev half a < rev half b → row_place (grid_of_rows half c row_width middle) a + 2 ^ half ≤ row_place (grid_of_rows half c row_width middle) b
   later a b less =
       let next : (rev half a + 1) * 2 ^ c ≤ rev half b * 2 ^ c = mul-le-mul_right (2 ^ c) (omega arith) in
-      omega (arith, next, columns, turned grid a refl, turned grid b refl)
+      omega (arith, next, columns, turned grid a, turned grid b)
 
   pub HoldsGrid-rows : {A : Type 0} (digits : ℕ) (items : List A) → digits ≡ half + c → HoldsRows row_width digits items
       → HoldsGrid (grid_of_rows half c row_width middle) items
@@ -36,7 +36,7 @@ module _ (half c row_width middle : ℕ) (within : half ≤ c) (below : middle <
     room = λ a less.
         let row : (rev half a + 1) * 2 ^ c ≤ 2 ^ half * 2 ^ c = mul-le-mul_right (2 ^ c) (omega (arith, rev-lt half a)) in
         let all : 2 ^ digits ≡ 2 ^ half * 2 ^ c = ap (λ n. 2 ^ n) is ∙ pow-add 2 half c in
-        let places : row_place grid a + 2 ^ half ≤ 2 ^ digits = omega (arith, row, all, columns, turned grid a refl) in
+        let places : row_place grid a + 2 ^ half ≤ 2 ^ digits = omega (arith, row, all, columns, turned grid a) in
         omega (arith, mul-le-mul_right {m = row_place grid a + 2 ^ half} {n = 2 ^ digits} row_width places, rows.rows);
     apart = λ a b less h.
         elim (cases_lt (rev half a) (rev half b)) [

@@ -8,7 +8,7 @@ use crate::kernels::bulk::Tiled;
 use crate::kernels::parts::numbers::{PartsLeft, Plan};
 use crate::kernels::parts::{RowPairs, TransposePlan};
 use crate::kernels::places::{SliceCells, SlicePlaces, SliceSource};
-use crate::kernels::rows::{RowDigits, reverse_rows};
+use crate::kernels::rows::reverse_rows;
 use crate::kernels::transpose::Matrix;
 use crate::kernels::ways::{Columns, PutRegion};
 
@@ -40,7 +40,7 @@ fn exchange_by_plan<const N: usize, const WIDTH: usize>(rows: &mut [[[u8; N]; WI
             let patch = (0..=number).find_map(|k| left.hand_out().filter(|_| k == number));
             let _ = patch.unwrap().exchange(places);
         } else {
-            let _ = reverse_rows(places, RowDigits::of(len, width));
+            let _ = reverse_rows(places, width);
         }
     }
     let moves_rows = cfg!(all(
