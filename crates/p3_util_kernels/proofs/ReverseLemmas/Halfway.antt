@@ -25,32 +25,13 @@ pub RowsHalfway-skip : {A : Type 0} (width k i : ℕ) (old now : List A) → i <
     → RowsHalfway width k i old now → RowsHalfway width k (i + 1) old now
 RowsHalfway-skip width k i old now h late at = record {
   same_length = at.same_length;
-  moved = λ r j hr hj s.
-      let back : rev k (rev k r) ≡ r = rev-rev-below k r hr in
-      elim (cases_lt r i) [
-        | inl less ↦ at.moved r j hr hj (inl less)
-        | inr past ↦
-            elim (cases_lt (rev k r) i) [
-              | inl less ↦ at.moved r j hr hj (inr less)
-              | inr past' ↦
-                  let own : rev k r ≡ r =
-                  elim s [
-                    | inl l ↦ let e : r ≡ i = omega arith in let s : rev k r ≡ rev k i = ap (rev k) e in omega arith
-                    | inr l ↦ let e : rev k r ≡ i = omega arith in let s : rev k (rev k r) ≡ rev k i = ap (rev k) e in omega arith
-                  ] in
-                  at.still r j hr hj past past' ∙ ap (λ q. slice_get old (q * width + j)) (sym own)
-            ]
-      ];
+  moved = λ r j hr hj s. grind (arith, s, rev-rev-below k r hr, at.moved r j hr hj, at.still r j hr hj);
   still = λ r j hr hj a b. at.still r j hr hj (omega arith) (omega arith);
 }
 
 -- a place of another row is before or after this row
 outside : (width r i t : ℕ) → r ≢ i → t < width → (r * width + t < i * width) ⊎ (i * width + width ≤ r * width + t)
-outside width r i t ne h =
-    elim (cases_lt r i) [
-      | inl less ↦ inl (omega (arith, mul-le-mul_right {m = r + 1} {n = i} width (omega arith)))
-      | inr past ↦ inr (omega (arith, mul-le-mul_right {m = i + 1} {n = r} width (omega arith)))
-    ]
+outside width r i t ne h = grind (arith, mul-le-mul_right {m = r + 1} {n = i} width, mul-le-mul_right {m = i + 1} {n = r} width)
 
 -- row i is exchanged with a later one
 pub RowsHalfway-swap : {A : Type 0} (width k i p : ℕ) (old now next : List A) → i < 2 ^ k → p ≡ rev k i → i < p
@@ -64,26 +45,8 @@ RowsHalfway-swap width k i p old now next h is early swapped at =
     record {
       same_length = swapped.same_length ∙ at.same_length;
       moved = λ r j hr hj s.
-          elim (cases_eq r i) [
-            | inl e ↦
-                ap (λ q. slice_get next (q * width + j)) e ∙ swapped.first j hj ∙ at.still p j hp hj (omega arith) (omega arith)
-                ∙ ap (λ q. slice_get old (q * width + j)) (is ∙ ap (rev k) (sym e))
-            | inr ne ↦
-                elim (cases_eq r p) [
-                  | inl e ↦
-                      ap (λ q. slice_get next (q * width + j)) e ∙ swapped.second j hj ∙ at.still i j h hj (omega arith) (omega arith)
-                      ∙ ap (λ q. slice_get old (q * width + j)) (sym back ∙ ap (rev k) (sym e))
-                  | inr ne' ↦
-                      let apart : rev k r ≢ i = λ e. ne' (sym (rev-rev-below k r hr) ∙ ap (rev k) e ∙ sym is) in
-                      let below : (r < i) ⊎ (rev k r < i) =
-                      elim s [ inl l ↦ inl (omega arith) | inr l ↦ inr (omega arith) ] in
-                      other r j hj ne ne' ∙ at.moved r j hr hj below
-                ]
-          ];
-      still = λ r j hr hj a b.
-          let ne : r ≢ i = omega arith in
-          let ne' : r ≢ p = λ e. let s : rev k r ≡ rev k p = ap (rev k) e in omega arith in
-          other r j hj ne ne' ∙ at.still r j hr hj (omega arith) (omega arith);
+          grind (arith, s, is, back, rev-rev-below k r hr, swapped.first j hj, swapped.second j hj, at.moved r j hr hj, at.still p j hp hj, at.still i j h hj, other r j hj);
+      still = λ r j hr hj a b. grind (arith, is, back, rev-rev-below k r hr, other r j hj, at.still r j hr hj);
     }
 
 -- all rows came up

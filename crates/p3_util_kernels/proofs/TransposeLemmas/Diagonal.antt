@@ -9,18 +9,6 @@ use Rattle.p3_util_kernels.specs.Square.{IsSquareTransposed}
 use Rattle.p3_util_kernels.proofs.PlacesLemmas.Exchange.{slice_get-swap_first, slice_get-swap_second, slice_get-swap_other}
 
 module _ {A : Type 0} (base stride : ℕ) where
-  -- the same pairs, told by other bounds
-  pub SwapsAcross-same : (row row_end col col_end row' row_end' col' col_end' : ℕ) (old new : List A)
-      → ((a b : ℕ) → IsInBlock row row_end col col_end a b → IsInBlock row' row_end' col' col_end' a b)
-      → ((a b : ℕ) → IsInBlock row' row_end' col' col_end' a b → IsInBlock row row_end col col_end a b)
-      → SwapsAcross base stride row row_end col col_end old new → SwapsAcross base stride row' row_end' col' col_end' old new
-  SwapsAcross-same row row_end col col_end row' row_end' col' col_end' old new to from s = record {
-    same_length = s.same_length;
-    crossed = λ a b ha hb h. s.crossed a b ha hb (from a b h);
-    kept = λ a b hb out. s.kept a b hb (λ h. out (to a b h));
-    before = s.before;
-  }
-
   -- no pair
   pub SwapsAcross-none : (row row_end col col_end : ℕ) (xs : List A) → ((a b : ℕ) → IsInBlock row row_end col col_end a b → ⊥)
       → SwapsAcross base stride row row_end col col_end xs xs
@@ -37,18 +25,8 @@ module _ {A : Type 0} (base stride : ℕ) where
       → SwapsAcross base stride row row_end col col_end xs zs
   SwapsAcross-rows row mid row_end col col_end xs ys zs h1 h2 s t = record {
     same_length = t.same_length ∙ s.same_length;
-    crossed = λ a b ha hb h.
-        elim (cases_lt (min a b) mid) [
-          | inl above ↦
-              t.kept a b hb (λ k. omega arith)
-              ∙ s.crossed a b ha hb (record { apart = h.apart; row_from = h.row_from; row_to = above; col_from = h.col_from; col_to = h.col_to })
-          | inr below ↦
-              t.crossed a b ha hb (record { apart = h.apart; row_from = below; row_to = h.row_to; col_from = h.col_from; col_to = h.col_to })
-              ∙ s.kept b a ha (λ k. omega arith)
-        ];
-    kept = λ a b hb out.
-        t.kept a b hb (λ k. out (record { apart = k.apart; row_from = omega arith; row_to = k.row_to; col_from = k.col_from; col_to = k.col_to }))
-        ∙ s.kept a b hb (λ k. out (record { apart = k.apart; row_from = k.row_from; row_to = omega arith; col_from = k.col_from; col_to = k.col_to }));
+    crossed = λ a b ha hb h. grind (arith, h, s.crossed a b ha hb, s.kept b a ha, t.crossed a b ha hb, t.kept a b hb);
+    kept = λ a b hb out. grind (arith, out, s.kept a b hb, t.kept a b hb);
     before = λ k h. t.before k h ∙ s.before k h;
   }
 
@@ -58,18 +36,8 @@ module _ {A : Type 0} (base stride : ℕ) where
       → SwapsAcross base stride row row_end col col_end xs zs
   SwapsAcross-cols row row_end col mid col_end xs ys zs h1 h2 s t = record {
     same_length = t.same_length ∙ s.same_length;
-    crossed = λ a b ha hb h.
-        elim (cases_lt (max a b) mid) [
-          | inl left ↦
-              t.kept a b hb (λ k. omega arith)
-              ∙ s.crossed a b ha hb (record { apart = h.apart; row_from = h.row_from; row_to = h.row_to; col_from = h.col_from; col_to = left })
-          | inr right ↦
-              t.crossed a b ha hb (record { apart = h.apart; row_from = h.row_from; row_to = h.row_to; col_from = right; col_to = h.col_to })
-              ∙ s.kept b a ha (λ k. omega arith)
-        ];
-    kept = λ a b hb out.
-        t.kept a b hb (λ k. out (record { apart = k.apart; row_from = k.row_from; row_to = k.row_to; col_from = omega arith; col_to = k.col_to }))
-        ∙ s.kept a b hb (λ k. out (record { apart = k.apart; row_from = k.row_from; row_to = k.row_to; col_from = k.col_from; col_to = omega arith }));
+    crossed = λ a b ha hb h. grind (arith, h, s.crossed a b ha hb, s.kept b a ha, t.crossed a b ha hb, t.kept a b hb);
+    kept = λ a b hb out. grind (arith, out, s.kept a b hb, t.kept a b hb);
     before = λ k h. t.before k h ∙ s.before k h;
   }
 
@@ -77,32 +45,16 @@ module _ {A : Type 0} (base stride : ℕ) where
   pub SwapsAcross-swap : (a b : ℕ) (xs : List A) → a < b → b < stride
       → base + a * stride + b < length xs → base + b * stride + a < length xs
       → SwapsAcross base stride a (a + 1) b (b + 1) xs (swap xs (base + b * stride + a) (base + a * stride + b))
-  SwapsAcross-swap a b xs h hb upper lower = record {
-    same_length = length-swap xs (base + b * stride + a) (base + a * stride + b);
-    crossed = λ c d hc hd k.
-        elim (cases_lt c d) [
-          | inl above ↦
-              let e : c ≡ a = omega arith in
-              let f : d ≡ b = omega arith in
-              rw (e, f) (slice_get-swap_second xs (base + b * stride + a) (base + a * stride + b) lower upper)
-          | inr below ↦
-              let e : c ≡ b = omega arith in
-              let f : d ≡ a = omega arith in
-              rw (e, f) (slice_get-swap_first xs (base + b * stride + a) (base + a * stride + b) lower upper)
-        ];
-    kept = λ c d hd out.
-        slice_get-swap_other xs (base + b * stride + a) (base + a * stride + b) (base + c * stride + d)
-        (λ e.
-        let same : c * stride + d ≡ b * stride + a = omega arith in
-        let both : (c ≡ b) × (d ≡ a) = same_from_place c d b a stride hd (omega arith) same in
-        out (record { apart = omega arith; row_from = omega arith; row_to = omega arith; col_from = omega arith; col_to = omega arith }))
-        (λ e.
-        let same : c * stride + d ≡ a * stride + b = omega arith in
-        let both : (c ≡ a) × (d ≡ b) = same_from_place c d a b stride hd hb same in
-        out (record { apart = omega arith; row_from = omega arith; row_to = omega arith; col_from = omega arith; col_to = omega arith }));
-    before = λ k h.
-        slice_get-swap_other xs (base + b * stride + a) (base + a * stride + b) k (λ e. omega arith) (λ e. omega arith);
-  }
+  SwapsAcross-swap a b xs h hb upper lower =
+      let i = base + b * stride + a in
+      let j = base + a * stride + b in
+      record {
+        same_length = length-swap xs i j;
+        crossed = λ c d hc hd k. grind (arith, k, slice_get-swap_second xs i j lower upper, slice_get-swap_first xs i j lower upper);
+        kept = λ c d hd out.
+            grind (arith, out, slice_get-swap_other xs i j (base + c * stride + d), same_from_place c d b a stride hd (omega arith), same_from_place c d a b stride hd hb);
+        before = λ k h. slice_get-swap_other xs i j k (λ e. omega arith) (λ e. omega arith);
+      }
 
   -- the upper left quadrant, the upper right one with its mirror image, and the lower right one make the square
   pub SwapsAcross-quadrants : (start mid end : ℕ) (xs ys zs ws : List A) → start ≤ mid → mid ≤ end
@@ -111,10 +63,7 @@ module _ {A : Type 0} (base stride : ℕ) where
   SwapsAcross-quadrants start mid end xs ys zs ws h1 h2 s t u =
       SwapsAcross-rows start mid end start end xs zs ws h1 h2
       (SwapsAcross-cols start mid start mid end xs ys zs h1 h2 s t)
-      (SwapsAcross-same mid end mid end mid end start end zs ws
-      (λ a b h. record { apart = h.apart; row_from = h.row_from; row_to = h.row_to; col_from = omega arith; col_to = h.col_to })
-      (λ a b h. record { apart = h.apart; row_from = h.row_from; row_to = h.row_to; col_from = omega arith; col_to = h.col_to })
-      u)
+      (record { same_length = u.same_length; crossed = λ a b ha hb h. grind (arith, h, u.crossed a b ha hb); kept = λ a b hb out. grind (arith, out, u.kept a b hb); before = u.before })
 
   -- one more line of a square
   pub SwapsAcross-line : (start line : ℕ) (xs ys zs : List A) → start ≤ line
@@ -133,11 +82,7 @@ IsSquareTransposed-from_across base log_stride log_size old new h s =
     let wide : 0 < 2 ^ log_stride = pow_pos log_stride in
     record {
       same_length = s.same_length;
-      places = λ a b ha hb.
-          elim (cases_eq a b) [
-            | inl e ↦ rw e (s.kept b b (omega arith) (λ k. omega arith))
-            | inr ne ↦ s.crossed a b (omega arith) (omega arith) (record { apart = omega arith; row_from = omega arith; row_to = omega arith; col_from = omega arith; col_to = omega arith })
-          ];
+      places = λ a b ha hb. grind (arith, s.kept a b (omega arith), s.crossed a b (omega arith) (omega arith));
       others = λ k out.
           elim (cases_lt k base) [
             | inl before ↦ s.before k before
