@@ -43,7 +43,7 @@ pub(crate) trait Output: Blocked {
     const IS_LONG: bool = LONG_BYTES <= Self::SIZE;
 
     /// The side of the squares of items that the holder transposes in registers, or 1.
-    const SIDE: usize = side_of(Self::SIZE, Self::HAS_REGISTERS, Self::IS_X86_64);
+    const SIDE: usize = side_of(Self::SIZE, Self::HAS_REGISTERS);
 
     /// Whether the holder can store items past the caches.
     const HAS_LINES: bool = has_lines(Self::SIZE, Self::HAS_REGISTERS, Self::IS_X86_64);

@@ -5,7 +5,6 @@ pub mod GridLemmas
 pub mod RegistersBlocks
 pub mod RegistersLemmas
 pub mod RegistersLines
-pub mod RegistersRuns
 pub mod RegistersSquares
 pub mod RegistersSteps
 pub mod RegistersTiles

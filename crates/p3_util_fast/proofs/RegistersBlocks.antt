@@ -5,9 +5,9 @@ use Rattle.std.proofs.lemmas.Bool.{cases_lt}
 use Rattle.std.proofs.lemmas.List.{get_or-replicate}
 use Rattle.p3_util_fast.specs.declared.bulk.Block.{Block}
 use Rattle.p3_util_fast.specs.BlockPut.{BlockFits, IsBlockPut}
-use Rattle.p3_util_fast.specs.Registers.{AreDisjoint, AreColumns, AreReached, AreStored, ColumnsPut, IsSide, RowsReached}
+use Rattle.p3_util_fast.specs.Registers.{AreDisjoint, AreColumns, AreStored, ColumnsPut, IsSide}
 use Rattle.p3_util_fast.proofs.BulkLemmas.Blocks.{in_block}
-use Rattle.p3_util_fast.proofs.RegistersTiles.{AreDisjoint-rows, AreReached-rows, SquaresMoved-rows}
+use Rattle.p3_util_fast.proofs.RegistersTiles.{AreDisjoint-rows, SquaresMoved-rows}
 
 -- what is in one column is before the next one
 column_before : (a b height : ℕ) → a < b → a * height + height ≤ b * height
@@ -40,9 +40,6 @@ module _ (side : ℕ) (block : Block) (col input_len len : ℕ) (is : IsSide sid
 
     pub AreDisjoint-block_to : AreDisjoint block.rows side to
     AreDisjoint-block_to = AreDisjoint-rows block.rows side known is (omega arith) (λ s. col) cols (replicate 8 col) to (λ c h. below) is_top at_row apart
-
-    pub AreReached-block_to : (may : ℕ → Type 0) → RowsReached block.rows side (λ c. block.to + c * block.height) may → AreReached block.rows to may
-    AreReached-block_to may all = AreReached-rows block.rows side known is (omega arith) (λ s. col) cols (replicate 8 col) to (λ c h. below) is_top at_row may (λ r c h k. rw (at_col r h) (all r c h k))
 
     pub ColumnsPut-step : {A : Type 0} (from : List ℕ) (columns : List (List A)) (input old new : List A) → ((c : ℕ) → c < 8 → slice_index from c ≡ slice_index rows c + col)
         → AreColumns side from input columns → AreStored block.rows side to columns old new → ColumnsPut col (col + side) block input old new

@@ -515,91 +515,6 @@ fn put_squares<T, D: Register<T>, S: Loads<T, D>, M: Runs<T, D>>(
     store(cells, block.rows, to, load_columns(source, from));
 }
 
-/// Does what [`store`] does, for squares of 2 or 4 rows, in another order. Run k is a part of column
-/// `k % side`, and the runs of a column are stored one right after the other: for 4 runs, first runs 0
-/// and 2, and then runs 1 and 3.
-#[inline(always)]
-fn store_columns<T, D: Register<T>, M: Runs<T, D>>(
-    list: &mut M,
-    side: usize,
-    count: usize,
-    to: [usize; 8],
-    four: Four<D>,
-)
-    requires some_side { (side ≡ 2) ⊎ (side ≡ 4) }
-    requires known { (count ≡ 4) ⊎ (count ≡ 8) }
-    requires squares { 2 * side ≤ count }
-    requires reached { AreReached count to (M.may (M.reach list.old)) }
-    requires apart { AreDisjoint count D.SIDE to }
-    ensures stored { AreStored count D.SIDE to (items_of_four D.items four) (M.items list.old) (M.items list.new) }
-    ensures reach { M.reach list.new ≡ M.reach list.old }
-    ensures holder { M.same_holder (count * D.SIDE) list.old list.new }
-{
-    let (run_0, run_1) = four.a.halves();
-    let (run_2, run_3) = four.b.halves();
-    let (run_4, run_5) = four.c.halves();
-    let (run_6, run_7) = four.d.halves();
-    if side == 4 {
-        list.store(to[0], run_0);
-        list.store(to[4], run_4);
-        list.store(to[1], run_1);
-        list.store(to[5], run_5);
-        list.store(to[2], run_2);
-        list.store(to[6], run_6);
-        list.store(to[3], run_3);
-        list.store(to[7], run_7);
-        return;
-    }
-    if count == 4 {
-        list.store(to[0], run_0);
-        list.store(to[2], run_2);
-        list.store(to[1], run_1);
-        list.store(to[3], run_3);
-        return;
-    }
-    list.store(to[0], run_0);
-    list.store(to[2], run_2);
-    list.store(to[4], run_4);
-    list.store(to[6], run_6);
-    list.store(to[1], run_1);
-    list.store(to[3], run_3);
-    list.store(to[5], run_5);
-    list.store(to[7], run_7);
-}
-
-/// Puts twice `D::SIDE` columns of a block, from column `col` on. All of them are read before one is
-/// put. So two neighbouring runs of a row are read, and two of a column written, one right after the
-/// other. On aarch64 that is one instruction for both (`ldp`, `stp`).
-#[inline(always)]
-fn put_twice<T, D: Register<T>, S: Loads<T, D>, M: Runs<T, D>>(
-    cells: &mut M,
-    source: &S,
-    block: Block,
-    col: usize,
-)
-    requires some_side { IsSide D.SIDE }
-    requires known { (block.rows ≡ 4) ⊎ (block.rows ≡ 8) }
-    requires below { col + 2 * D.SIDE ≤ block.rows }
-    requires square { block.cols ≡ block.rows }
-    requires block { BlockFits block (length (S.items source.now)) (length (M.items cells.old)) }
-    requires reads { RowsReached block.rows D.SIDE (λ r. block.from + r * block.width) (S.may (S.reach source.now)) }
-    requires writes { RowsReached block.rows D.SIDE (λ c. block.to + c * block.height) (M.may (M.reach cells.old)) }
-    requires source_len_fits { length (S.items source.now) < 2 ^ 63 }
-    requires cells_len_fits { length (M.items cells.old) < 2 ^ 63 }
-    ensures put { ColumnsPut col (col + 2 * D.SIDE) block (S.items source.now) (M.items cells.old) (M.items cells.new) }
-    ensures reach { M.reach cells.new ≡ M.reach cells.old }
-    ensures holder { M.same_holder (block.rows * (2 * D.SIDE)) cells.old cells.new }
-{
-    let side = D::SIDE;
-    let from = starts(block.from, block.width, block.rows);
-    let to = starts(block.to, block.height, block.rows);
-    let next = col + side;
-    let left = load_columns(source, in_column(from, col));
-    let right = load_columns(source, in_column(from, next));
-    store_columns(cells, side, block.rows, in_band(to, side, col), left);
-    store_columns(cells, side, block.rows, in_band(to, side, next), right);
-}
-
 /// Does what `Blocked::put_block` does, by squares of `D::SIDE` rows.
 #[inline(always)]
 pub(crate) fn put_by_squares<T, D: Register<T>, S: Loads<T, D>, M: Runs<T, D>>(
@@ -610,7 +525,7 @@ pub(crate) fn put_by_squares<T, D: Register<T>, S: Loads<T, D>, M: Runs<T, D>>(
     requires some_side { IsSide D.SIDE }
     requires known { (block.rows ≡ 4) ⊎ (block.rows ≡ 8) }
     requires square { block.cols ≡ block.rows }
-    requires below { D.SIDE ≤ block.rows }
+    requires lines { (block.rows ≡ D.SIDE) ⊎ (block.rows ≡ 2 * D.SIDE) }
     requires block { BlockFits block (length (S.items source.now)) (length (M.items cells.old)) }
     requires reads { RowsReached block.rows D.SIDE (λ r. block.from + r * block.width) (S.may (S.reach source.now)) }
     requires writes { RowsReached block.rows D.SIDE (λ c. block.to + c * block.height) (M.may (M.reach cells.old)) }
@@ -618,13 +533,9 @@ pub(crate) fn put_by_squares<T, D: Register<T>, S: Loads<T, D>, M: Runs<T, D>>(
     ensures reach { M.reach cells.new ≡ M.reach cells.old }
     ensures holder { M.same_holder (block_items block) cells.old cells.new }
 {
-    match block.rows / D::SIDE {
-        4 => {
-            put_twice(cells, source, block, 0);
-            put_twice(cells, source, block, 4);
-        }
-        2 => put_twice(cells, source, block, 0),
-        _ => put_squares(cells, source, block, 0),
+    put_squares(cells, source, block, 0);
+    if D::SIDE < block.rows {
+        put_squares(cells, source, block, D::SIDE);
     }
 }
 

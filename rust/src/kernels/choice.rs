@@ -15,7 +15,7 @@
 //! | Items | Strips | Why |
 //! |---|---|---|
 //! | 1 or 2 bytes | high, by blocks of 8 by 8 | a register holds one or two rows of such a block |
-//! | 4 or 8 bytes | high, by blocks of 4 by 4. On aarch64, by blocks of 8 by 8 | a register holds a row of 4, or half a row. See [`side_of`] |
+//! | 4 or 8 bytes | high, by blocks of 4 by 4 | a register holds a row of such a block, or half a row |
 //! | 1 KiB and more | of 16 rows, column after column, each item by a function of its own | in a build without optimization, other functions would have copies of it on the stack |
 //! | less than 8 bytes, not by blocks, where [`has_eight_rows`] says so | of 8 rows, column after column | their lines stay in the first-level cache |
 //! | all others | lowest if 16 divides the width, otherwise low, column after column | see [`strips_of`] |
@@ -145,14 +145,12 @@ pub(crate) fn row_blocks_of(size: usize, width: usize, height: usize) -> Option<
     }
 }
 
-/// The side of the blocks in which items of `size` bytes are transposed in registers, or 1 if there are none. On aarch64, which
-/// has 32 vector registers, a block of 8 by 8 items of 4 or 8 bytes takes fewer instructions than four blocks of 4 by 4, and
-/// than columns. On x86-64, which has 16 without AVX-512, it would go through memory.
+/// The side of the blocks in which items of `size` bytes are transposed in registers, or 1 if there are none.
 #[inline(always)]
-pub(crate) const fn side_of(size: usize, has_registers: bool, is_x86_64: bool) -> usize {
+pub(crate) const fn side_of(size: usize, has_registers: bool) -> usize {
     match size {
-        4 | 8 if has_registers && is_x86_64 => 4,
-        1 | 2 | 4 | 8 if has_registers => 8,
+        1 | 2 if has_registers => 8,
+        4 | 8 if has_registers => 4,
         _ => 1,
     }
 }

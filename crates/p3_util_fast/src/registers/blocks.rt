@@ -119,11 +119,10 @@ fn is_square(side: usize, square: usize, block: Block) -> bool
     ensures side { IsTrue result → IsSide side }
     ensures known { IsTrue result → (block.rows ≡ 4) ⊎ (block.rows ≡ 8) }
     ensures square { IsTrue result → block.cols ≡ block.rows }
-    ensures below { IsTrue result → side ≤ block.rows }
+    ensures lines { IsTrue result → (block.rows ≡ side) ⊎ (block.rows ≡ 2 * side) }
 {
     block.cols == block.rows
         && block.rows == square
         && (square == 4 || square == 8)
-        && (side == 2 || side == 4 || side == 8)
-        && side <= square
+        && (side == square || side == square / 2)
 }

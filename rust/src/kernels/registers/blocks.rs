@@ -84,6 +84,5 @@ fn is_square(side: usize, square: usize, block: Block) -> bool {
     block.cols == block.rows
         && block.rows == square
         && (square == 4 || square == 8)
-        && (side == 2 || side == 4 || side == 8)
-        && side <= square
+        && (side == square || side == square / 2)
 }
