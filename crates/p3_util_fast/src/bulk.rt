@@ -50,16 +50,6 @@ pub trait Tiled: Places {
         ensures exchanged { TilesExchanged 64 x y (Self.items self.old) (Self.items self.new) }
         ensures holder { Self.same_holder 64 self.old self.new }
     {
-        self.exchange_tiles_singly(x, y);
-    }
-
-    /// Does the same by 64 calls of `exchange`.
-    #[inline(always)]
-    fn exchange_tiles_singly(&mut self, x: [usize; 8], y: [usize; 8])
-        requires { AreTiles x y (length (Self.items self.old)) }
-        ensures exchanged { TilesExchanged 64 x y (Self.items self.old) (Self.items self.new) }
-        ensures holder { Self.same_holder 64 self.old self.new }
-    {
         len_fits(self.len());
         for r in 0..8 {
             for c in 0..8 {

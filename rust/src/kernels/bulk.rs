@@ -43,12 +43,6 @@ pub(crate) trait Tiled: Places {
     /// `exchange`.
     #[inline(always)]
     fn exchange_tiles(&mut self, x: [usize; 8], y: [usize; 8]) {
-        self.exchange_tiles_singly(x, y);
-    }
-
-    /// Does the same by 64 calls of `exchange`.
-    #[inline(always)]
-    fn exchange_tiles_singly(&mut self, x: [usize; 8], y: [usize; 8]) {
         len_fits(self.len());
         for r in 0..8 {
             for c in 0..8 {

@@ -1,6 +1,6 @@
 use Rattle.std.proofs.Common.{◌+◌, ◌*◌}
 use Rattle.p3_util_fast.specs.Tiles.{TilesExchanged}
-use Rattle.p3_util_fast.proofs.bulk.Tiled.exchange_tiles_singly.Given as goal
+use Rattle.p3_util_fast.proofs.bulk.Tiled.exchange_tiles.Given as goal
 
 -- the rows before r of the tile are exchanged, and in row r the items before c
 abbrev pub invariant-loop-r : goal.invariant-loop-r

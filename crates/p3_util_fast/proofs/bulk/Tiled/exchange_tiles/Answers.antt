@@ -1,7 +1,7 @@
 -- Each turn of the loop exchanges one more item of the tiles.
 use Rattle.std.proofs.Common.{refl, arith}
 use Rattle.p3_util_fast.proofs.BulkLemmas.Tiles.{TilesExchanged-more}
-use Rattle.p3_util_fast.proofs.bulk.Tiled.exchange_tiles_singly.Goals as goal
+use Rattle.p3_util_fast.proofs.bulk.Tiled.exchange_tiles.Goals as goal
 
 pub loop-c-preserved : goal.loop-c-preserved
 loop-c-preserved g c = record {
