@@ -134,6 +134,12 @@ impl<T: Copy, D: Register<T, Half: Run>> Output for SliceItems<'_, T, D> {
     const HAS_REGISTERS: bool = USES_REGISTERS;
     const IS_X86_64: bool = cfg!(target_arch = "x86_64");
 
+    /// In the tests of this crate, short lists go past the caches too.
+    #[cfg(test)]
+    fn limits() -> crate::kernels::choice::Limits {
+        crate::kernels::choice::Limits { list: 1 << 10, side: 1 }
+    }
+
     fn address(&self) -> usize {
         self.first.addr()
     }

@@ -10,12 +10,7 @@ use super::registers::{self, Widest};
 pub(crate) const MOVES_BYTES: bool = cfg!(not(unaligned_is_slow))
     && (cfg!(target_arch = "x86_64")
         || cfg!(target_arch = "aarch64")
-            && !cfg!(any(
-                target_os = "none",
-                target_os = "hermit",
-                target_os = "nuttx",
-                target_os = "teeos"
-            )));
+            && !cfg!(any(target_os = "none", target_os = "hermit", target_os = "nuttx", target_os = "teeos")));
 
 /// An item of `N` bytes, of which only the size is known, or a row of such items.
 ///

@@ -66,10 +66,7 @@ impl Half {
     fn of(word: Word) -> Self {
         let mut register = Vector::uninit();
         words_of(&mut register)[0] = word;
-        Half {
-            register,
-            is_second: false,
-        }
+        Half { register, is_second: false }
     }
 
     #[inline(always)]

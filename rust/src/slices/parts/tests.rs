@@ -43,10 +43,7 @@ fn exchange_by_plan<const N: usize, const WIDTH: usize>(rows: &mut [[[u8; N]; WI
             let _ = reverse_rows(places, width);
         }
     }
-    let moves_rows = cfg!(all(
-        any(target_arch = "x86_64", target_arch = "aarch64"),
-        not(unaligned_is_slow)
-    ));
+    let moves_rows = cfg!(all(any(target_arch = "x86_64", target_arch = "aarch64"), not(unaligned_is_slow)));
     if moves_rows && matches!(N * WIDTH, 1 | 2 | 4 | 8 | 12 | 16 | 20 | 32 | 64) {
         exchange(SlicePlaces::new(rows), 1, ranges, is_cut, number);
     } else {
@@ -56,9 +53,7 @@ fn exchange_by_plan<const N: usize, const WIDTH: usize>(rows: &mut [[[u8; N]; WI
 
 /// Runs each part of a reversal of 2^`digits` rows alone.
 fn exchanges_alone<const N: usize, const WIDTH: usize>(digits: u32, asked: usize) {
-    let rows: Vec<[[u8; N]; WIDTH]> = (0..1 << digits)
-        .map(|row| from_fn(|col| item(row * WIDTH + col)))
-        .collect();
+    let rows: Vec<[[u8; N]; WIDTH]> = (0..1 << digits).map(|row| from_fn(|col| item(row * WIDTH + col))).collect();
     let (mut moved, mut wanted) = (rows.clone(), rows.clone());
     let count = row_reversal(moved.as_flattened_mut(), WIDTH, asked).len();
     assert_eq!(count > 1, cfg!(not(feature = "checked")));
@@ -83,7 +78,7 @@ fn puts_alone<const N: usize>() {
         for number in 0..plan.count() {
             let (mut output, mut wanted) = (blank.clone(), blank.clone());
             let part = transpose(&input, &mut output, width, height, asked).nth(number);
-            part.unwrap().run_near();
+            part.unwrap().run();
             let matrix = Matrix::new(source, width, height);
             let _ = Columns.put(SliceCells::new(&mut wanted), matrix, plan.region(number));
             let is_wanted = output.as_flattened() == wanted.as_flattened();
@@ -105,8 +100,6 @@ fn each_part_alone() {
     }
     sizes!(1 2 3 4 8 12 16 20 24 32 40 48 64);
 }
-
-mod near;
 
 #[cfg(not(feature = "checked"))]
 mod races;

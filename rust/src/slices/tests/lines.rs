@@ -1,4 +1,4 @@
-//! Tests of transposes by cache lines, in two parts and more. For `run_near` a list of 1024 bytes is long enough for that.
+//! Tests of transposes by cache lines, in two parts and more. For `run` a list of 1024 bytes is long enough for that.
 
 use std::boxed::Box;
 use std::fmt::Debug;
@@ -22,7 +22,7 @@ fn transposes<T: Copy + Debug + PartialEq + Send + Sync>(
     let mut all: Vec<_> = transpose(&list[input..], &mut cells[output..output + len], width, height, parts).collect();
     // Another order for each shape.
     while !all.is_empty() {
-        all.swap_remove((7 * width + 3 * height) % all.len()).run_near();
+        all.swap_remove((7 * width + 3 * height) % all.len()).run();
     }
     let wanted = |place: usize| match place.checked_sub(output) {
         Some(place) if place < len => list[input + transposed(width, height, place)],
@@ -57,13 +57,10 @@ struct After<const BYTES: usize, const SIZE: usize> {
 #[test]
 fn all_addresses() {
     fn transposes<const BYTES: usize, const SIZE: usize>() {
-        let mut list = Box::new(After {
-            before: [9; BYTES],
-            items: [[0; SIZE]; 33 * 48],
-        });
+        let mut list = Box::new(After { before: [9; BYTES], items: [[0; SIZE]; 33 * 48] });
         let number = |number: usize| std::array::from_fn(|byte| (number >> (byte % 4 * 8)) as u8 ^ byte as u8);
         let input: Vec<[u8; SIZE]> = (0..33 * 48).map(number).collect();
-        transpose(&input, &mut list.items, 33, 48, 3).for_each(TransposePart::run_near);
+        transpose(&input, &mut list.items, 33, 48, 3).for_each(TransposePart::run);
         let wanted = |place: usize| input[place % 48 * 33 + place / 48];
         assert!(list.items.iter().enumerate().all(|(place, got)| *got == wanted(place)));
         assert_eq!(list.before, [9; BYTES]);

@@ -5,11 +5,11 @@
 use std::array::from_fn;
 use std::ptr::null_mut;
 
-use super::super::{Bytes, Items, Run, SliceItems, SliceSource, USES_REGISTERS, Vector};
+use super::super::{Bytes, Run, SliceItems, SliceSource};
 use crate::kernels::bulk::{Ahead, Block, Tiled};
 use crate::kernels::places::{Cells, Places, Source};
+use crate::kernels::registers::Register;
 use crate::kernels::registers::blocks::SquaresOfCells;
-use crate::kernels::registers::{Pair, Register, Two};
 use crate::slices::parts::{TransposePart, transpose};
 use crate::slices::tests::*;
 
@@ -48,12 +48,7 @@ impl<const N: usize> Runs<N> {
                 assert_eq!(mprotect(start.add(GAP * N * run), PAGE, READ_AND_WRITE), 0);
             }
             let first = start.add(if ends_with_page { PAGE - N * len } else { 0 }).cast();
-            let list = Runs {
-                memory,
-                first,
-                runs,
-                len,
-            };
+            let list = Runs { memory, first, runs, len };
             for (run, k) in list.places() {
                 list.first.add(GAP * run + k).write(Self::item(run, k));
             }
@@ -87,12 +82,7 @@ impl<const N: usize> Runs<N> {
             let (from, of) = wanted(run, k);
             // SAFETY: this is a place of a run.
             let got = unsafe { self.first.add(GAP * run + k).read() };
-            assert_eq!(
-                got,
-                Self::item(from, of),
-                "run {run}, place {k} of {}, items of {N} bytes",
-                self.len
-            );
+            assert_eq!(got, Self::item(from, of), "run {run}, place {k} of {}, items of {N} bytes", self.len);
         }
     }
 }
@@ -122,9 +112,7 @@ fn steps<const N: usize>() {
             let mut runs = Runs::<N>::new(2, len, ends_with_page);
             SliceItems::new(runs.list()).exchange_runs(0, GAP, len);
             runs.has(|run, k| (1 - run, k));
-            SliceItems::new(runs.list())
-                .in_bytes::<1>()
-                .exchange_runs(GAP * N, 0, len * N);
+            SliceItems::new(runs.list()).in_bytes::<1>().exchange_runs(GAP * N, 0, len * N);
             runs.has(|run, k| (run, k));
         }
 
@@ -174,9 +162,7 @@ fn hints_of_tiles<const N: usize, H: for<'a> Hold<'a, [u8; N]>>(ends_with_page: 
 /// item by item, so no item to the right of one is read.
 fn columns_off_a_line<const N: usize>(ends_with_page: bool, put: impl Fn(&mut [[u8; N]], &[[u8; N]], Block)) {
     let line = 64 / N;
-    let more_rows = (1..line)
-        .map(|to| (line, to, 1))
-        .chain([(line - 1, 0, 1), (line + 1, 0, 1)]);
+    let more_rows = (1..line).map(|to| (line, to, 1)).chain([(line - 1, 0, 1), (line + 1, 0, 1)]);
     for (rows, to, more) in more_rows.chain([(line, 0, 0)]) {
         let mut source = Runs::<N>::new(rows + more, 1, ends_with_page);
         let mut cells = Runs::<N>::new(1, 2 * line, false);
@@ -210,12 +196,12 @@ fn lines_touch_their_places_alone() {
     }
 }
 
-/// Transposes whole matrices, all of whose items can be read or written, but nothing beside them. The parts of a list of 1024
-/// bytes are put by lines. The whole calls are too short for that.
+/// Transposes whole matrices, all of whose items can be read or written, but nothing beside them. Those of 4, 8 and 16 bytes are put
+/// by lines in lists of 1024 bytes and more.
 #[test]
 fn transposes_touch_their_lists_alone() {
     fn transposes<const N: usize>() {
-        let shapes = [(19, 37), (16, 64), (40, 17), (3, 131), (17, 32)].into_iter();
+        let shapes = [(19, 37), (16, 64), (40, 17), (3, 131), (17, 32), (13, 17)].into_iter();
         for ((width, height), ends_with_page) in shapes.flat_map(|shape| [(shape, false), (shape, true)]) {
             let len = width * height;
             let mut source = Runs::<N>::new(1, len, ends_with_page);
@@ -223,13 +209,14 @@ fn transposes_touch_their_lists_alone() {
                 let mut cells = Runs::<N>::new(1, len, ends_with_page);
                 match parts {
                     0 => crate::slices::transpose(source.list(), cells.list(), width, height),
-                    _ => transpose(source.list(), cells.list(), width, height, 2 * parts)
-                        .for_each(TransposePart::run_near),
+                    _ => transpose(source.list(), cells.list(), width, height, 2 * parts).for_each(TransposePart::run),
                 }
                 cells.has(|_, k| (0, transposed(width, height, k)));
             }
         }
     }
+    transposes::<1>();
+    transposes::<2>();
     transposes::<4>();
     transposes::<8>();
     transposes::<16>();

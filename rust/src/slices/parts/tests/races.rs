@@ -20,10 +20,8 @@ fn reversed(digits: usize, i: usize) -> usize {
 /// Runs each share on its own thread.
 fn run_all<P: Send>(shares: impl IntoIterator<Item = Vec<P>>, run: fn(P)) {
     scope(|scope| {
-        let threads: Vec<_> = shares
-            .into_iter()
-            .map(|share| scope.spawn(move || share.into_iter().for_each(run)))
-            .collect();
+        let threads: Vec<_> =
+            shares.into_iter().map(|share| scope.spawn(move || share.into_iter().for_each(run))).collect();
         // The detector learns that a thread is done when the thread is joined, but not when the scope waits for it.
         threads.into_iter().for_each(|thread| thread.join().unwrap());
     });
@@ -66,11 +64,7 @@ impl Number for (u8, &'static str) {
 fn transposes<T: Number>(width: usize, height: usize, parts: usize, threads: usize) {
     let input: Vec<T> = (0..width * height).map(T::of).collect();
     let mut output = std::vec![T::of(0); input.len()];
-    run_on(
-        threads,
-        transpose(&input, &mut output, width, height, parts),
-        TransposePart::run_near,
-    );
+    run_on(threads, transpose(&input, &mut output, width, height, parts), TransposePart::run);
     let wanted = |place| T::of(transposed(width, height, place));
     assert!(output.into_iter().eq((0..input.len()).map(wanted)));
 }
@@ -114,11 +108,7 @@ fn exchanges_both(len: usize, row_width: usize) {
     let plans = [1, 2].map(|ranges| plan_of(len, size_of::<usize>(), row_width, Some(ranges)));
     assert_eq!(plans.map(|(_, plan)| plan.count()), [1, 3]);
     let bytes = plans[0].0;
-    let both = of_both(
-        SliceItems::in_shares(&mut list, len),
-        bytes,
-        plans.map(|(_, plan)| (plan, 0)),
-    );
+    let both = of_both(SliceItems::in_shares(&mut list, len), bytes, plans.map(|(_, plan)| (plan, 0)));
     run_all(both.map(|part| std::vec![ReversalPart(part)]), ReversalPart::run);
 }
 
@@ -130,7 +120,7 @@ fn overlapping_regions() {
     let mut output = input.clone();
     let cuts = [(2, 0), (4, 1)].map(|(count, part)| (TransposePlan::new(64, 64, count, true), part));
     let both = of_both(SliceItems::in_shares(&mut output, 0), &input[..], cuts);
-    run_all(both.map(|part| std::vec![TransposePart(part)]), TransposePart::run_near);
+    run_all(both.map(|part| std::vec![TransposePart(part)]), TransposePart::run);
 }
 
 /// 2^8 rows of three items, which are a square of 16 by 16 rows.
