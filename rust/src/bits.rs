@@ -41,10 +41,7 @@ pub const fn log2_strict_usize(n: usize) -> usize {
 #[track_caller]
 pub const fn log3_strict_usize(n: usize) -> usize {
     assert!(n != 0, "log3_strict_usize: input must be non-zero");
-    assert!(
-        proved::is_power_of_three(n),
-        "log3_strict_usize: input is not a power of 3"
-    );
+    assert!(proved::is_power_of_three(n), "log3_strict_usize: input is not a power of 3");
     proved::log3_strict_usize(n)
 }
 

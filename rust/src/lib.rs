@@ -103,13 +103,9 @@ mod bits;
 /// ```
 #[allow(clippy::len_without_is_empty, reason = "a kernel asks a holder for its length alone")]
 #[allow(clippy::only_used_in_recursion, reason = "by the bound, a recursion ends")]
-#[cfg_attr(
-    any(feature = "checked", target_pointer_width = "32"),
-    allow(dead_code, reason = "no registers")
-)]
+#[cfg_attr(any(feature = "checked", target_pointer_width = "32"), allow(dead_code, reason = "no registers"))]
 #[allow(clippy::unnecessary_cast, reason = "on a system of 32 bits, an index is a `u64`")]
 #[allow(rustdoc::private_intra_doc_links, reason = "seven functions are private here")]
-#[rustfmt::skip]
 pub mod kernels;
 pub mod linear_map;
 mod memory;

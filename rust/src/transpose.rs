@@ -10,10 +10,7 @@ pub use crate::slices::transpose;
 pub(crate) fn refuse(input: usize, output: usize, width: usize, height: usize) -> ! {
     let product = width as u128 * height as u128;
     for (list, len) in [("Input", input), ("Output", output)] {
-        assert_eq!(
-            len as u128, product,
-            "{list} length {len} doesn't match width*height = {product}"
-        );
+        assert_eq!(len as u128, product, "{list} length {len} doesn't match width*height = {product}");
     }
     unreachable!("lengths that fit are not refused");
 }

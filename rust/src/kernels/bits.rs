@@ -59,9 +59,9 @@ const POWERS_OF_THREE: [usize; 41] = [
 /// Entry `t` is the exponent of the greatest power of three below `2^(t + 1)`. So if bit `t` is the
 /// highest set bit of a power of three, entry `t` is the exponent of that power.
 const EXPONENTS_OF_THREE: [u8; 64] = [
-    0, 1, 1, 2, 3, 3, 4, 5, 5, 6, 6, 7, 8, 8, 9, 10, 10, 11, 11, 12, 13, 13, 14, 15, 15, 16, 17,
-    17, 18, 18, 19, 20, 20, 21, 22, 22, 23, 23, 24, 25, 25, 26, 27, 27, 28, 29, 29, 30, 30, 31, 32,
-    32, 33, 34, 34, 35, 35, 36, 37, 37, 38, 39, 39, 40,
+    0, 1, 1, 2, 3, 3, 4, 5, 5, 6, 6, 7, 8, 8, 9, 10, 10, 11, 11, 12, 13, 13, 14, 15, 15, 16, 17, 17, 18, 18, 19, 20,
+    20, 21, 22, 22, 23, 23, 24, 25, 25, 26, 27, 27, 28, 29, 29, 30, 30, 31, 32, 32, 33, 34, 34, 35, 35, 36, 37, 37, 38,
+    39, 39, 40,
 ];
 
 /// The logarithm of `n` to base 2, rounded up: the least `e` with `n <= 2^e`. It is 0 for 0 and 1.
@@ -116,11 +116,7 @@ pub(crate) const fn pow2(exponent: usize) -> usize {
 #[inline]
 #[must_use]
 pub const fn checked_pow2(log_degree: usize) -> Option<usize> {
-    if log_degree < 64 {
-        Some(1 << log_degree)
-    } else {
-        None
-    }
+    if log_degree < 64 { Some(1 << log_degree) } else { None }
 }
 
 /// `a + b` and `2^(a + b)`, or `None` if the power does not fit in a `usize`.
@@ -133,11 +129,7 @@ pub const fn checked_pow2(log_degree: usize) -> Option<usize> {
 #[must_use]
 pub const fn checked_log_size_sum(a: usize, b: usize) -> Option<(usize, usize)> {
     let sum = a.saturating_add(b);
-    if sum < 64 {
-        Some((sum, 1 << sum))
-    } else {
-        None
-    }
+    if sum < 64 { Some((sum, 1 << sum)) } else { None }
 }
 
 /// The logarithm to base 2 of `n`, which must be a power of two. This call does not check that, and

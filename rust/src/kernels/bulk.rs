@@ -109,14 +109,7 @@ pub(crate) trait Blocked: Cells {
     where
         Self: Sized,
     {
-        let Block {
-            rows,
-            cols,
-            from,
-            width,
-            to,
-            height,
-        } = block;
+        let Block { rows, cols, from, width, to, height } = block;
         len_fits(source.len());
         len_fits(Self::len(self));
         for c in 0..cols {

@@ -65,11 +65,7 @@ pub(crate) trait ByteInstances: Sized {
 
 /// Makes the exchanges of a part, in the list of places of `place` bytes each.
 #[inline(always)]
-pub(crate) fn reverse_part<I: ByteInstances>(
-    list: I,
-    place: usize,
-    part: Part<ReversalPlan>,
-) -> I::Done {
+pub(crate) fn reverse_part<I: ByteInstances>(list: I, place: usize, part: Part<ReversalPlan>) -> I::Done {
     match part.work() {
         Work::Patch(patch) => list.exchange(place, patch),
         Work::Rows(row_width) => list.reverse(row_width * place),

@@ -2,20 +2,18 @@
 //! What a call on slices does, once its precondition was tested. Whatever a holder says of itself, and whatever
 //! [`choice`](crate::kernels::choice) chooses, each function here does what its name says: its contract is that of the kernel.
 
-#[cfg(target_pointer_width = "32")]
-use crate::width::Index as usize;
+use crate::kernels::bulk::{Ahead, Blocked};
 use crate::kernels::choice::{
-    EIGHT_ROWS, LONG_BYTES, Limits, SEVERAL_COLUMNS, SHORT_COLUMN, few_items_of, has_eight_rows,
-    has_lines, row_blocks_of, side_of, strips_of,
+    EIGHT_ROWS, LONG_BYTES, Limits, SEVERAL_COLUMNS, SHORT_COLUMN, few_items_of, has_eight_rows, has_lines,
+    row_blocks_of, side_of, strips_of,
 };
 use crate::kernels::lines::Lines;
-use crate::kernels::bulk::{Ahead, Blocked};
-use crate::kernels::strips::UNIT;
-use crate::kernels::ways::{
-    Blocks, Columns, InCols, InRows, PutColumn, PutRegion, ShortColumns, put_as_block,
-};
 use crate::kernels::places::{Cells, Source};
+use crate::kernels::strips::UNIT;
 use crate::kernels::transpose::{Matrix, Region};
+use crate::kernels::ways::{Blocks, Columns, InCols, InRows, PutColumn, PutRegion, ShortColumns, put_as_block};
+#[cfg(target_pointer_width = "32")]
+use crate::width::Index as usize;
 
 /// The bytes of a cache line.
 pub(crate) const LINE: usize = 64;
@@ -60,7 +58,7 @@ pub(crate) trait Output: Blocked {
     /// Puts all items of a list of the same length, in the same order.
     fn copy<R: Ahead<Item = Self::Item> + Copy>(self, source: R) -> Self
     where
-        Self: Sized,;
+        Self: Sized;
 
     /// Puts a region by these lines. The holder may store them past the caches until it returns.
     fn put_past_caches<R: Ahead<Item = Self::Item> + Copy>(
@@ -109,12 +107,7 @@ pub(crate) fn transpose_whole<M: Output, R: Ahead<Item = M::Item> + Copy>(
 
 /// Transposes a matrix of few items.
 #[inline(always)]
-fn transpose_tiny<M: Output, R: Ahead<Item = M::Item> + Copy>(
-    cells: M,
-    source: R,
-    width: usize,
-    height: usize,
-) -> M {
+fn transpose_tiny<M: Output, R: Ahead<Item = M::Item> + Copy>(cells: M, source: R, width: usize, height: usize) -> M {
     let matrix = Matrix::new(source, width, height);
     let whole = matrix.whole();
     if M::TESTS_INDICES {
@@ -139,10 +132,7 @@ fn transpose_tiny_apart<M: Output, R: Ahead<Item = M::Item> + Copy>(
 
 /// Transposes a matrix of one block, in the holder's own way. The side is a constant, and with it the distance of its rows.
 #[inline(never)]
-fn transpose_block<const SIDE: usize, M: Output, R: Ahead<Item = M::Item> + Copy>(
-    cells: M,
-    source: R,
-) -> M {
+fn transpose_block<const SIDE: usize, M: Output, R: Ahead<Item = M::Item> + Copy>(cells: M, source: R) -> M {
     let matrix = Matrix::new(source, SIDE, SIDE);
     let whole = matrix.whole();
     put_as_block(cells, matrix, whole)
@@ -150,12 +140,7 @@ fn transpose_block<const SIDE: usize, M: Output, R: Ahead<Item = M::Item> + Copy
 
 /// Transposes a matrix that is neither copied nor one block, and has many items or long ones.
 #[inline(never)]
-fn transpose_apart<M: Output, R: Ahead<Item = M::Item> + Copy>(
-    cells: M,
-    source: R,
-    width: usize,
-    height: usize,
-) -> M {
+fn transpose_apart<M: Output, R: Ahead<Item = M::Item> + Copy>(cells: M, source: R, width: usize, height: usize) -> M {
     let matrix = Matrix::new(source, width, height);
     let whole = matrix.whole();
     put_region(cells, matrix, whole)
@@ -163,11 +148,7 @@ fn transpose_apart<M: Output, R: Ahead<Item = M::Item> + Copy>(
 
 /// Puts a region of a matrix: by lines, by blocks of several rows, or in strips.
 #[inline(always)]
-fn put_region<M: Output, R: Ahead<Item = M::Item> + Copy>(
-    cells: M,
-    matrix: Matrix<R>,
-    region: Region,
-) -> M {
+fn put_region<M: Output, R: Ahead<Item = M::Item> + Copy>(cells: M, matrix: Matrix<R>, region: Region) -> M {
     let (size, width, height) = (M::SIZE, matrix.width, matrix.height);
     if M::HAS_LINES && M::limits().fit(size, matrix, region, cells.address()) {
         return put_streamed(cells, matrix, region);
@@ -201,11 +182,7 @@ fn columns_at_a_time<S: PutRegion>(way: S) -> InCols<SEVERAL_COLUMNS, S, S> {
 
 /// Puts a region by cache lines of the output, past the caches.
 #[inline(never)]
-fn put_streamed<M: Output, R: Ahead<Item = M::Item> + Copy>(
-    cells: M,
-    matrix: Matrix<R>,
-    region: Region,
-) -> M {
+fn put_streamed<M: Output, R: Ahead<Item = M::Item> + Copy>(cells: M, matrix: Matrix<R>, region: Region) -> M {
     let size = M::SIZE.clamp(1, LINE);
     let lines = Lines::new(LINE / size, cells.address() % LINE / size);
     cells.put_past_caches(lines, matrix, region)
@@ -237,12 +214,7 @@ impl PutColumn for LongColumns {
 
 /// Puts the item at index `from` of a source into cell `to`.
 #[inline(never)]
-fn put_item<M: Cells, R: Source<Item = M::Item> + Copy>(
-    out: &mut M,
-    source: R,
-    from: usize,
-    to: usize,
-) {
+fn put_item<M: Cells, R: Source<Item = M::Item> + Copy>(out: &mut M, source: R, from: usize, to: usize) {
     out.put(to, source.at(from));
 }
 

@@ -23,11 +23,11 @@
 //! Items are put past the caches on x86-64, and by blocks where they are transposed in registers. Elsewhere these rows fit no
 //! matrix. Where each index is tested, [`row_blocks_of`] comes before the strips.
 
+use crate::kernels::strips::{HIGH_ROWS, Strips, TINY_MATRIX, UNIT};
+use crate::kernels::transpose::{Matrix, Region};
+use crate::kernels::ways::RowBlocks;
 #[cfg(target_pointer_width = "32")]
 use crate::width::Index as usize;
-use crate::kernels::strips::{HIGH_ROWS, Strips, TINY_MATRIX, UNIT};
-use crate::kernels::ways::RowBlocks;
-use crate::kernels::transpose::{Matrix, Region};
 
 /// An item of so many bytes is exchanged as a run of bytes, which takes hardly longer, and is put by a function of its own.
 pub(crate) const LONG_BYTES: usize = 1024;
@@ -73,22 +73,13 @@ impl Limits {
     /// The limits for users.
     #[inline(always)]
     pub(crate) const fn of_users() -> Limits {
-        Limits {
-            list: 1 << 25,
-            side: 320,
-        }
+        Limits { list: 1 << 25, side: 320 }
     }
 
     /// Whether a region of a matrix of items of `size` bytes is put past the caches, if it [may be](has_lines). `at` is the address
     /// of the first cell of the output. The list is in memory, so no product wraps.
     #[inline(always)]
-    pub(crate) fn fit<R: Copy>(
-        self,
-        size: usize,
-        matrix: Matrix<R>,
-        region: Region,
-        at: usize,
-    ) -> bool {
+    pub(crate) fn fit<R: Copy>(self, size: usize, matrix: Matrix<R>, region: Region, at: usize) -> bool {
         let items = matrix.width.wrapping_mul(matrix.height);
         items.wrapping_mul(size) >= self.list
             && at % size.max(1) == 0
@@ -117,10 +108,7 @@ pub(crate) fn strips_of<const SIDE: usize>(width: usize) -> Strips<SIDE, HIGH_RO
 /// of 8 rows, and seldom for those of more. In long columns, twice as many parts of a line are stored, which takes longer.
 #[inline(always)]
 pub(crate) fn has_eight_rows(size: usize, side: usize, width: usize, height: usize) -> bool {
-    side == 1
-        && size < SHORT_BYTES
-        && width.wrapping_mul(size) % PAGE == 0
-        && height.wrapping_mul(size) < LONG_COLUMN
+    side == 1 && size < SHORT_BYTES && width.wrapping_mul(size) % PAGE == 0 && height.wrapping_mul(size) < LONG_COLUMN
 }
 
 /// Where each index is tested, a matrix is put by blocks of several rows instead of columns and strips. The holder tests each
@@ -159,11 +147,7 @@ pub(crate) const fn side_of(size: usize, has_registers: bool) -> usize {
 /// Without such squares, strips would put the columns in the same way, after more calls.
 #[inline(always)]
 pub(crate) const fn few_items_of(side: usize) -> usize {
-    if side > 1 {
-        TINY_IN_REGISTERS
-    } else {
-        TINY_MATRIX
-    }
+    if side > 1 { TINY_IN_REGISTERS } else { TINY_MATRIX }
 }
 
 /// Whether items of `size` bytes may be put past the caches. On one thread, those of 32 bytes and more take no less time there.

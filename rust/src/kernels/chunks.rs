@@ -62,11 +62,7 @@ pub fn iter_array_chunks_padded<T: Copy, const N: usize, I: IntoIterator<Item = 
     iter: I,
     default: T,
 ) -> ArrayChunksPadded<I::IntoIter, T, N> {
-    ArrayChunksPadded {
-        iter: iter.into_iter(),
-        default,
-        done: false,
-    }
+    ArrayChunksPadded { iter: iter.into_iter(), default, done: false }
 }
 
 /// The iterator that [`iter_array_chunks_padded`] returns.

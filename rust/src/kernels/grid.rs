@@ -14,12 +14,12 @@
 //! The exchanges are made in the order of nested squares, down to *tiles* of 8 rows and columns. So
 //! the items of a tile, which lie in a few cache lines, are exchanged together.
 
-#[cfg(target_pointer_width = "32")]
-use crate::width::Index as usize;
-use crate::kernels::bulk::Tiled;
 use crate::kernels::bits::{pow2, reverse_bits_len};
+use crate::kernels::bulk::Tiled;
 use crate::kernels::reverse::REVERSED_SIX;
 use crate::kernels::transpose::Region;
+#[cfg(target_pointer_width = "32")]
+use crate::width::Index as usize;
 
 /// The number of rows and of columns of a tile.
 pub(crate) const TILE: usize = 8;
@@ -60,16 +60,7 @@ impl Grid {
         let four = self.row_distance(first);
         let (one, two) = (4 * four, 2 * four);
         let middle = first + four;
-        [
-            first,
-            first + one,
-            first + two,
-            first + one + two,
-            middle,
-            middle + one,
-            middle + two,
-            middle + one + two,
-        ]
+        [first, first + one, first + two, first + one + two, middle, middle + one, middle + two, middle + one + two]
     }
 
     /// The rows of the tile at row `x` and column `y`, and those of its mirror image. Row `x` begins at
@@ -182,12 +173,7 @@ fn exchange_on_diagonal<M: Tiled>(m: M, grid: Grid, start: usize, size: usize) -
     let end = start + size;
     let mut m = m;
     for row in start..end {
-        let right = Region {
-            row_start: row,
-            row_end: row + 1,
-            col_start: row + 1,
-            col_end: end,
-        };
+        let right = Region { row_start: row, row_end: row + 1, col_start: row + 1, col_end: end };
         m = exchange_row(m, grid, row, right);
     }
     m
@@ -204,7 +190,12 @@ fn exchange_diagonal_tile<M: Tiled>(m: M, grid: Grid, start: usize) -> M {
     }
     for row in 0..TILE {
         for col in row + 1..TILE {
-            m = exchange_places(m, grid.width, places[row as core::primitive::usize] + col, places[col as core::primitive::usize] + row);
+            m = exchange_places(
+                m,
+                grid.width,
+                places[row as core::primitive::usize] + col,
+                places[col as core::primitive::usize] + row,
+            );
         }
     }
     m
@@ -220,12 +211,8 @@ pub(crate) fn exchange_quadrants<M: Tiled>(m: M, grid: Grid, start: usize, size:
         return exchange_on_diagonal(m, grid, start, size);
     }
     let half = upper_half(size);
-    let upper_right = Region {
-        row_start: start,
-        row_end: start + half,
-        col_start: start + half,
-        col_end: start + size,
-    };
+    let upper_right =
+        Region { row_start: start, row_end: start + half, col_start: start + half, col_end: start + size };
     let m = exchange_quadrants(m, grid, start, half);
     let m = exchange_region(m, grid, upper_right);
     exchange_quadrants(m, grid, start + half, size - half)
@@ -237,11 +224,7 @@ pub(crate) fn exchange_quadrants<M: Tiled>(m: M, grid: Grid, start: usize, size:
 #[inline(always)]
 pub(crate) fn exchange_square<M: Tiled>(m: M, grid: Grid, row_by_row: bool) -> M {
     let size = pow2(grid.digits);
-    if row_by_row {
-        exchange_on_diagonal(m, grid, 0, size)
-    } else {
-        exchange_quadrants(m, grid, 0, size)
-    }
+    if row_by_row { exchange_on_diagonal(m, grid, 0, size) } else { exchange_quadrants(m, grid, 0, size) }
 }
 
 /// Reverses `x`, which has at most `digits` binary digits. Up to six digits are looked up in the

@@ -5,12 +5,12 @@
 mod iter;
 
 use crate::kernels::NoRoom;
-pub use iter::{Iter, Keys, Values};
 use crate::memory::{AllocError, Global, Vec};
 use alloc::vec;
-use core::slice;
 use core::mem::replace;
 use core::ops::Index;
+use core::slice;
+pub use iter::{Iter, Keys, Values};
 
 /// A map in insertion order, for few keys. A lookup compares one stored key after the other with the
 /// given one, as in `stored == given`.
@@ -22,16 +22,12 @@ pub struct LinearMap<K: Eq, V> {
 impl<K: Eq, V> LinearMap<K, V> {
     /// An empty map. It allocates nothing until the first pair is inserted.
     pub fn new(alloc: Global) -> Self {
-        LinearMap {
-            pairs: Vec::new(alloc),
-        }
+        LinearMap { pairs: Vec::new(alloc) }
     }
 
     /// An empty map with room for `capacity` pairs.
     pub fn with_capacity(alloc: Global, capacity: usize) -> Result<Self, AllocError> {
-        Ok(LinearMap {
-            pairs: Vec::with_capacity(alloc, capacity)?,
-        })
+        Ok(LinearMap { pairs: Vec::with_capacity(alloc, capacity)? })
     }
 
     /// The number of pairs.
@@ -46,23 +42,17 @@ impl<K: Eq, V> LinearMap<K, V> {
 
     /// The values, in order.
     pub fn values(&self) -> Values<'_, K, V> {
-        Values {
-            pairs: self.pairs.iter(),
-        }
+        Values { pairs: self.pairs.iter() }
     }
 
     /// The keys, in order.
     pub fn keys(&self) -> Keys<'_, K, V> {
-        Keys {
-            pairs: self.pairs.iter(),
-        }
+        Keys { pairs: self.pairs.iter() }
     }
 
     /// The pairs, in order.
     pub fn iter(&self) -> Iter<'_, K, V> {
-        Iter {
-            pairs: self.pairs.iter(),
-        }
+        Iter { pairs: self.pairs.iter() }
     }
 
     /// The index of the pair whose key equals `k`, or `None` if there is no such pair.
@@ -123,10 +113,7 @@ impl<K: Eq, V> LinearMap<K, V> {
 impl<K: Eq, V> LinearMap<K, V> {
     /// The map of the pairs of `it`, inserted in order. If memory runs out, the pairs that were
     /// taken are dropped.
-    pub fn try_from_iter<I: IntoIterator<Item = (K, V)>>(
-        alloc: Global,
-        it: I,
-    ) -> Result<Self, AllocError> {
+    pub fn try_from_iter<I: IntoIterator<Item = (K, V)>>(alloc: Global, it: I) -> Result<Self, AllocError> {
         let mut map = LinearMap::new(alloc);
         for (k, v) in it {
             if map.insert(k, v).is_err() {

@@ -6,11 +6,11 @@
 //! of lines begin in different rows of the matrix. The first and the last row of lines have the parts of lines at the ends of
 //! the columns.
 
+use crate::kernels::bulk::{Ahead, Blocked};
+use crate::kernels::transpose::{Matrix, Region};
+use crate::kernels::ways::{Columns, InCols, Outlined, PutRegion, put_as_block};
 #[cfg(target_pointer_width = "32")]
 use crate::width::Index as usize;
-use crate::kernels::bulk::{Ahead, Blocked};
-use crate::kernels::ways::{Columns, InCols, Outlined, PutRegion, put_as_block};
-use crate::kernels::transpose::{Matrix, Region};
 
 /// Lines are put in so many columns at a time. The memory pages that these columns are on are few
 /// enough for the processor to keep all of their addresses.
@@ -65,14 +65,7 @@ impl Lines {
     /// A holder that puts one block cannot ask for these rows by itself: it does not see in which rows the lines of the
     /// neighbouring columns begin.
     #[inline(always)]
-    fn expect_rows<R: Ahead + Copy>(
-        self,
-        matrix: Matrix<R>,
-        region: Region,
-        row: usize,
-        col: usize,
-        end: usize,
-    ) {
+    fn expect_rows<R: Ahead + Copy>(self, matrix: Matrix<R>, region: Region, row: usize, col: usize, end: usize) {
         let is_long = col + 1 < end && LONG_ROW * self.cells <= region.cols();
         if region.row_end <= row || is_long {
             return;
@@ -94,12 +87,7 @@ impl Lines {
 
 impl PutRegion for Lines {
     #[inline(always)]
-    fn put<M: Blocked, R: Ahead<Item = M::Item> + Copy>(
-        self,
-        out: M,
-        matrix: Matrix<R>,
-        region: Region,
-    ) -> M {
+    fn put<M: Blocked, R: Ahead<Item = M::Item> + Copy>(self, out: M, matrix: Matrix<R>, region: Region) -> M {
         let panel = Panel(self);
         InCols::<LINE_COLUMNS, _, _>(panel, panel).put(out, matrix, region)
     }
@@ -112,12 +100,7 @@ struct Panel(Lines);
 
 impl PutRegion for Panel {
     #[inline(never)]
-    fn put<M: Blocked, R: Ahead<Item = M::Item> + Copy>(
-        self,
-        out: M,
-        matrix: Matrix<R>,
-        region: Region,
-    ) -> M {
+    fn put<M: Blocked, R: Ahead<Item = M::Item> + Copy>(self, out: M, matrix: Matrix<R>, region: Region) -> M {
         let lines = self.0;
         if region.row_end > MOST_ROWS || region.col_start == region.col_end {
             return Outlined(Columns).put(out, matrix, region);
@@ -187,9 +170,7 @@ fn put_row<M: Blocked, R: Ahead<Item = M::Item> + Copy>(
         while lines.cells <= region.col_end - col {
             let end = col + lines.cells;
             lines.expect_rows(matrix, region, next, col, end);
-            let line = region
-                .with_rows(from, from + lines.cells)
-                .with_cols(col, end);
+            let line = region.with_rows(from, from + lines.cells).with_cols(col, end);
             out = put_as_block(out, matrix, line.with_known_sides(lines.cells, lines.cells));
             col = end;
         }
@@ -197,9 +178,7 @@ fn put_row<M: Blocked, R: Ahead<Item = M::Item> + Copy>(
     while col < region.col_end {
         lines.expect_row(matrix, region, next, col);
         let from = lines.limit(region, step, rows_done, col);
-        let line = region
-            .with_rows(from, from + lines.cells)
-            .with_cols(col, col + 1);
+        let line = region.with_rows(from, from + lines.cells).with_cols(col, col + 1);
         out = put_as_block(out, matrix, line.with_known_sides(lines.cells, 1));
         col += 1;
     }

@@ -1,9 +1,9 @@
 // rust/erase writes this file from crates/p3_util_dispatch/src/part.rt. Make changes there.
 //! What a part of a call does.
 
+use crate::kernels::bulk::{Ahead, Tiled};
 use crate::kernels::calls::{Output, transpose_region};
 use crate::kernels::parts::{Part, ReversalPlan, TransposePlan, Work};
-use crate::kernels::bulk::{Ahead, Tiled};
 use crate::kernels::rows::reverse_rows;
 
 /// Puts the region of a part.

@@ -17,13 +17,13 @@ pub(crate) mod numbers;
 mod reversal;
 mod transpose;
 
+use crate::kernels::bits::pow2;
+use crate::kernels::grid::TILE;
+use crate::kernels::rows::RowDigits;
+use crate::kernels::transpose::Region;
 pub(crate) use asked::{one_part_items, ranges_if_cut};
 pub(crate) use lists::{PartToRun, PartsToRun, Shared};
 pub(crate) use numbers::Part;
-use crate::kernels::grid::TILE;
-use crate::kernels::rows::RowDigits;
-use crate::kernels::bits::pow2;
-use crate::kernels::transpose::Region;
 pub(crate) use reversal::{ReversalPlan, Work};
 pub(crate) use transpose::TransposePlan;
 
@@ -40,10 +40,7 @@ impl Cut {
     /// `unit`, and the parts are no longer than necessary. A `parts` of 0 counts as 1.
     pub(crate) fn new(len: usize, parts: usize, unit: usize) -> Cut {
         let units = len.div_ceil(unit).div_ceil(parts.max(1));
-        Cut {
-            len,
-            part_len: units.max(1).saturating_mul(unit),
-        }
+        Cut { len, part_len: units.max(1).saturating_mul(unit) }
     }
 
     /// The number of parts, which is 0 if `len` is 0.
@@ -105,12 +102,7 @@ impl RowPairs {
         let (first, second) = self.cut.pair(number / grids);
         let (row_start, row_end) = self.cut.part(first);
         let (col_start, col_end) = self.cut.part(second);
-        let region = Region {
-            row_start,
-            row_end,
-            col_start,
-            col_end,
-        };
+        let region = Region { row_start, row_end, col_start, col_end };
         (number % grids, region)
     }
 }

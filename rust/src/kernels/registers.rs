@@ -86,12 +86,7 @@ pub(crate) struct Four<D> {
 #[inline(always)]
 fn next_stage<T, D: Register<T>>(four: Four<D>) -> Four<D> {
     let Four { a, b, c, d } = four;
-    Four {
-        a: a.low(c),
-        b: a.high(c),
-        c: b.low(d),
-        d: b.high(d),
-    }
+    Four { a: a.low(c), b: a.high(c), c: b.low(d), d: b.high(d) }
 }
 
 /// Reads two runs and interleaves them.
@@ -116,14 +111,10 @@ fn load<T, D: Register<T>, S: Loads<T, D>>(list: &S, from: [usize; 8]) -> Four<D
 #[inline(always)]
 fn in_order(places: [usize; 8], side: usize) -> [usize; 8] {
     if side == 2 {
-        return [
-            places[0], places[2], places[4], places[6], places[1], places[3], places[5], places[7],
-        ];
+        return [places[0], places[2], places[4], places[6], places[1], places[3], places[5], places[7]];
     }
     if side == 4 {
-        return [
-            places[0], places[4], places[1], places[5], places[2], places[6], places[3], places[7],
-        ];
+        return [places[0], places[4], places[1], places[5], places[2], places[6], places[3], places[7]];
     }
     places
 }
@@ -154,12 +145,7 @@ fn store_two<T, D: Register<T>, M: Runs<T, D>>(list: &mut M, first: usize, secon
 
 /// Stores four registers, or the first two of them, by runs of `count` places.
 #[inline(always)]
-fn store<T, D: Register<T>, M: Runs<T, D>>(
-    list: &mut M,
-    count: usize,
-    to: [usize; 8],
-    four: Four<D>,
-) {
+fn store<T, D: Register<T>, M: Runs<T, D>>(list: &mut M, count: usize, to: [usize; 8], four: Four<D>) {
     store_two(list, to[0], to[1], four.a);
     store_two(list, to[2], to[3], four.b);
     if count == 8 {
@@ -221,12 +207,7 @@ fn in_band(x: [usize; 8], side: usize, top: usize) -> [usize; 8] {
 
 /// Exchanges `D::SIDE` rows of a tile, from row `row` on, with as many columns of the other.
 #[inline(always)]
-fn exchange_band<T, D: Register<T>, M: Runs<T, D>>(
-    list: &mut M,
-    x: [usize; 8],
-    y: [usize; 8],
-    row: usize,
-) {
+fn exchange_band<T, D: Register<T>, M: Runs<T, D>>(list: &mut M, x: [usize; 8], y: [usize; 8], row: usize) {
     let in_x = in_band(x, D::SIDE, row);
     let in_y = in_column(y, row);
     let to_y = load_columns(list, in_x);
@@ -237,11 +218,7 @@ fn exchange_band<T, D: Register<T>, M: Runs<T, D>>(
 
 /// Does what `Tiled::exchange_tiles` does, by squares of `D::SIDE` rows.
 #[inline(always)]
-pub(crate) fn exchange_tiles<T, D: Register<T>, M: Runs<T, D>>(
-    list: &mut M,
-    x: [usize; 8],
-    y: [usize; 8],
-) {
+pub(crate) fn exchange_tiles<T, D: Register<T>, M: Runs<T, D>>(list: &mut M, x: [usize; 8], y: [usize; 8]) {
     match D::SIDE {
         2 => {
             exchange_band(list, x, y, 0);
@@ -329,12 +306,7 @@ fn starts(first: usize, stride: usize, count: usize) -> [usize; 8] {
 /// Puts `D::SIDE` columns of a block, from column `col` on, which are squares one above another. If
 /// the block has 4 rows, the registers have each of its squares twice, and one of both is put.
 #[inline(always)]
-fn put_squares<T, D: Register<T>, S: Loads<T, D>, M: Runs<T, D>>(
-    cells: &mut M,
-    source: &S,
-    block: Block,
-    col: usize,
-) {
+fn put_squares<T, D: Register<T>, S: Loads<T, D>, M: Runs<T, D>>(cells: &mut M, source: &S, block: Block, col: usize) {
     let from = in_column(starts(block.from, block.width, block.rows), col);
     let to = in_band(starts(block.to, block.height, block.rows), D::SIDE, col);
     store(cells, block.rows, to, load_columns(source, from));

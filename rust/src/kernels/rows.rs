@@ -19,11 +19,11 @@
 //! The rows with the same middle digit form a [`Grid`]: the row of `x` and `y` is the place of row
 //! `x` and column `y`, and is exchanged with the place of row `y` and column `x`.
 
-#[cfg(target_pointer_width = "32")]
-use crate::width::Index as usize;
+use crate::kernels::bits::{log2_strict_usize, pow2};
 use crate::kernels::bulk::Tiled;
 use crate::kernels::grid::{Grid, exchange_square};
-use crate::kernels::bits::{log2_strict_usize, pow2};
+#[cfg(target_pointer_width = "32")]
+use crate::width::Index as usize;
 
 /// Rows of `width` items each, whose indices have `digits` binary digits: there are `2^digits`
 /// rows, or none.
@@ -48,12 +48,7 @@ impl RowDigits {
     #[inline(always)]
     pub(crate) fn grid(self, middle: usize) -> Grid {
         let half = self.digits / 2;
-        Grid {
-            width: self.width,
-            base: middle * pow2(half),
-            stride: pow2(self.digits - half),
-            digits: half,
-        }
+        Grid { width: self.width, base: middle * pow2(half), stride: pow2(self.digits - half), digits: half }
     }
 }
 

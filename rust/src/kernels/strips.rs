@@ -8,11 +8,11 @@
 //! [`Strips`] says how many rows a strip has, and whether it is put column after column or by
 //! squares. That choice only changes the order of the puts.
 
+use crate::kernels::bulk::{Ahead, Blocked};
+use crate::kernels::transpose::{Matrix, Region};
+use crate::kernels::ways::{Blocks, Columns, InCols, InRows, Outlined, PutRegion};
 #[cfg(target_pointer_width = "32")]
 use crate::width::Index as usize;
-use crate::kernels::bulk::{Ahead, Blocked};
-use crate::kernels::ways::{Blocks, Columns, InCols, InRows, Outlined, PutRegion};
-use crate::kernels::transpose::{Matrix, Region};
 
 /// A matrix of fewer items is put column after column.
 pub(crate) const TINY_MATRIX: usize = 256;
@@ -43,12 +43,7 @@ pub(crate) enum Strips<const SIDE: usize, const ROWS: usize> {
 }
 
 impl<const SIDE: usize, const ROWS: usize> PutRegion for Strips<SIDE, ROWS> {
-    fn put<M: Blocked, R: Ahead<Item = M::Item> + Copy>(
-        self,
-        out: M,
-        matrix: Matrix<R>,
-        region: Region,
-    ) -> M {
+    fn put<M: Blocked, R: Ahead<Item = M::Item> + Copy>(self, out: M, matrix: Matrix<R>, region: Region) -> M {
         if region.col_start == region.col_end {
             // A region without columns has no item, however many rows it has.
             return out;
@@ -71,12 +66,7 @@ struct Squares<const SIDE: usize>;
 
 impl<const SIDE: usize> PutRegion for Squares<SIDE> {
     #[inline(never)]
-    fn put<M: Blocked, R: Ahead<Item = M::Item> + Copy>(
-        self,
-        out: M,
-        matrix: Matrix<R>,
-        region: Region,
-    ) -> M {
+    fn put<M: Blocked, R: Ahead<Item = M::Item> + Copy>(self, out: M, matrix: Matrix<R>, region: Region) -> M {
         let rest = Outlined(Columns);
         match SIDE {
             0 | 1 => rest.put(out, matrix, region),

@@ -66,12 +66,7 @@ pub const fn fits_matrix(input_len: usize, output_len: usize, width: usize, heig
 /// writes the items in the same order.
 #[allow(dead_code)]
 pub(crate) fn transpose<T: Copy>(input: &[T], output: &mut [T], width: usize, height: usize) {
-    transpose_cells(
-        &SliceSource::new(input),
-        &mut SliceCells::new(output),
-        width,
-        height,
-    );
+    transpose_cells(&SliceSource::new(input), &mut SliceCells::new(output), width, height);
 }
 
 /// Transposes a source into any cells. The caller makes the holder, so it knows what is in the slice

@@ -17,10 +17,10 @@
 //! Each way takes the holder by value and returns it. This keeps the holder in registers in the
 //! loops.
 
-#[cfg(target_pointer_width = "32")]
-use crate::width::Index as usize;
 use crate::kernels::bulk::{Ahead, Block, Blocked};
 use crate::kernels::transpose::{Matrix, Region};
+#[cfg(target_pointer_width = "32")]
+use crate::width::Index as usize;
 
 /// A column is put by loops over this many items each. The compiler knows how long these loops are.
 const COLUMN_ITEMS: usize = 8;
@@ -29,12 +29,7 @@ const COLUMN_ITEMS: usize = 8;
 /// them.
 pub(crate) trait PutRegion: Copy {
     /// Puts `region` in this way.
-    fn put<M: Blocked, R: Ahead<Item = M::Item> + Copy>(
-        self,
-        out: M,
-        matrix: Matrix<R>,
-        region: Region,
-    ) -> M;
+    fn put<M: Blocked, R: Ahead<Item = M::Item> + Copy>(self, out: M, matrix: Matrix<R>, region: Region) -> M;
 }
 
 /// `InRows(whole, rest)` puts `ROWS` rows at a time, from top to bottom. Parts of `ROWS` rows are put
@@ -44,12 +39,7 @@ pub(crate) struct InRows<const ROWS: usize, W, V>(pub W, pub V);
 
 impl<const ROWS: usize, W: PutRegion, V: PutRegion> PutRegion for InRows<ROWS, W, V> {
     #[inline(always)]
-    fn put<M: Blocked, R: Ahead<Item = M::Item> + Copy>(
-        self,
-        out: M,
-        matrix: Matrix<R>,
-        region: Region,
-    ) -> M {
+    fn put<M: Blocked, R: Ahead<Item = M::Item> + Copy>(self, out: M, matrix: Matrix<R>, region: Region) -> M {
         let InRows(whole, rest) = self;
         let most = ROWS.max(1);
         let mut out = out;
@@ -75,12 +65,7 @@ pub(crate) struct InCols<const COLS: usize, W, V>(pub W, pub V);
 
 impl<const COLS: usize, W: PutRegion, V: PutRegion> PutRegion for InCols<COLS, W, V> {
     #[inline(always)]
-    fn put<M: Blocked, R: Ahead<Item = M::Item> + Copy>(
-        self,
-        out: M,
-        matrix: Matrix<R>,
-        region: Region,
-    ) -> M {
+    fn put<M: Blocked, R: Ahead<Item = M::Item> + Copy>(self, out: M, matrix: Matrix<R>, region: Region) -> M {
         let InCols(whole, rest) = self;
         let cols = COLS.max(1);
         let mut out = out;
@@ -104,12 +89,7 @@ pub(crate) struct Blocks<const ROWS: usize, V>(pub V);
 
 impl<const ROWS: usize, V: PutRegion> PutRegion for Blocks<ROWS, V> {
     #[inline(always)]
-    fn put<M: Blocked, R: Ahead<Item = M::Item> + Copy>(
-        self,
-        out: M,
-        matrix: Matrix<R>,
-        region: Region,
-    ) -> M {
+    fn put<M: Blocked, R: Ahead<Item = M::Item> + Copy>(self, out: M, matrix: Matrix<R>, region: Region) -> M {
         let Blocks(rest) = self;
         if region.col_start == region.col_end {
             return out;
@@ -142,12 +122,7 @@ pub(crate) enum RowBlocks {
 
 impl PutRegion for RowBlocks {
     #[inline(always)]
-    fn put<M: Blocked, R: Ahead<Item = M::Item> + Copy>(
-        self,
-        out: M,
-        matrix: Matrix<R>,
-        region: Region,
-    ) -> M {
+    fn put<M: Blocked, R: Ahead<Item = M::Item> + Copy>(self, out: M, matrix: Matrix<R>, region: Region) -> M {
         let eight = Blocks::<8, _>(Outlined(Blocks::<4, _>(Columns)));
         match self {
             RowBlocks::Eight => Outlined(eight).put(out, matrix, region),
@@ -163,12 +138,7 @@ pub(crate) struct Outlined<W>(pub W);
 
 impl<W: PutRegion> PutRegion for Outlined<W> {
     #[inline(never)]
-    fn put<M: Blocked, R: Ahead<Item = M::Item> + Copy>(
-        self,
-        out: M,
-        matrix: Matrix<R>,
-        region: Region,
-    ) -> M {
+    fn put<M: Blocked, R: Ahead<Item = M::Item> + Copy>(self, out: M, matrix: Matrix<R>, region: Region) -> M {
         self.0.put(out, matrix, region)
     }
 }
@@ -180,11 +150,7 @@ pub(crate) fn put_as_block<M: Blocked, R: Ahead<Item = M::Item> + Copy>(
     matrix: Matrix<R>,
     region: Region,
 ) -> M {
-    let Matrix {
-        source,
-        width,
-        height,
-    } = matrix;
+    let Matrix { source, width, height } = matrix;
     let block = Block {
         rows: region.rows(),
         cols: region.cols(),
@@ -214,12 +180,7 @@ pub(crate) trait PutColumn: Copy {
 
 impl<C: PutColumn> PutRegion for C {
     #[inline(always)]
-    fn put<M: Blocked, R: Ahead<Item = M::Item> + Copy>(
-        self,
-        out: M,
-        matrix: Matrix<R>,
-        region: Region,
-    ) -> M {
+    fn put<M: Blocked, R: Ahead<Item = M::Item> + Copy>(self, out: M, matrix: Matrix<R>, region: Region) -> M {
         if region.row_start == region.row_end {
             // A region without rows has no item, however many columns it has.
             return out;

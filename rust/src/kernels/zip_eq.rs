@@ -60,5 +60,4 @@ impl<A: ExactSizeIterator, B: ExactSizeIterator> ExactSizeIterator for ZipEq<A, 
     }
 }
 
-impl<A: ExactSizeIterator + FusedIterator, B: ExactSizeIterator + FusedIterator> FusedIterator
-    for ZipEq<A, B> {}
+impl<A: ExactSizeIterator + FusedIterator, B: ExactSizeIterator + FusedIterator> FusedIterator for ZipEq<A, B> {}

@@ -32,10 +32,7 @@ fn bytes(text: impl AsRef<str>) -> usize {
 fn texts_are_read_as_std_has_them() {
     let text = text_of("a\"b");
     assert_eq!((&*text, text.len(), text.find('b')), ("a\"b", 3, Some(2)));
-    assert_eq!(
-        (format!("{text:>5}"), format!("{text:?}")),
-        ("  a\"b".into(), r#""a\"b""#.into())
-    );
+    assert_eq!((format!("{text:>5}"), format!("{text:?}")), ("  a\"b".into(), r#""a\"b""#.into()));
     assert_eq!((text.clone(), bytes(text)), (text_of("a\"b"), 3));
 }
 

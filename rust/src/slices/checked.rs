@@ -25,12 +25,7 @@ impl<'a, T> SliceItems<'a, T> {
 
     /// The whole list. [`SliceItems::share`] cuts it into shares of `share` places each. The last share may have fewer.
     pub(super) fn in_shares(items: &'a mut [T], share: usize) -> Self {
-        SliceItems {
-            before: 0,
-            len: items.len(),
-            items,
-            share,
-        }
+        SliceItems { before: 0, len: items.len(), items, share }
     }
 }
 

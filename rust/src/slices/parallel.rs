@@ -9,18 +9,14 @@ use super::parts::{self, ReversalPart, TransposePart, one_part_reversal};
 #[inline]
 pub(super) fn reverse<F: Send>(vals: &mut [F], row_width: usize) -> bool {
     vals.len() > one_part_reversal::<F>()
-        && run_all(ReversalPart::run, 8, |asked| {
-            parts::row_reversal(vals, row_width, asked)
-        })
+        && run_all(ReversalPart::run, 8, |asked| parts::row_reversal(vals, row_width, asked))
 }
 
 /// Does the same for a transpose, by four parts for each thread. With fewer than 2^18 items it takes less time on one thread.
 #[inline]
 pub(super) fn transpose<T: Copy + Send + Sync>(input: &[T], output: &mut [T], width: usize, height: usize) -> bool {
     input.len() >= 1 << 18
-        && run_all(TransposePart::run, 4, |asked| {
-            parts::transpose(input, output, width, height, asked)
-        })
+        && run_all(TransposePart::run, 4, |asked| parts::transpose(input, output, width, height, asked))
 }
 
 /// Asks `cut` for so many parts `of_each` thread and runs them, unless there is one thread. A thread takes the next part when it

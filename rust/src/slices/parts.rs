@@ -45,11 +45,7 @@ use crate::kernels::transpose::fits_matrix;
 /// ```
 #[must_use]
 pub const fn one_part_reversal<F>() -> usize {
-    if cfg!(feature = "checked") {
-        usize::MAX
-    } else {
-        one_part_items(size_of::<F>())
-    }
+    if cfg!(feature = "checked") { usize::MAX } else { one_part_items(size_of::<F>()) }
 }
 
 /// The remaining parts of a transpose, as an iterator of known length.

@@ -65,20 +65,9 @@ fn moves<F: Debug + PartialEq + Send + Sync>(item: impl Fn(usize) -> F) {
 /// Transposes matrices of the items that `item` makes, whole and in parts, and calls `moves` for them too.
 fn serves<T: Copy + Debug + PartialEq + Send + Sync>(item: impl Fn(usize) -> T) {
     moves(&item);
-    let shapes = [
-        (1, 7),
-        (5, 3),
-        (4, 4),
-        (16, 16),
-        (17, 19),
-        (33, 40),
-        (64, 48),
-        (300, 60),
-    ];
-    for ((width, height), parts) in shapes
-        .into_iter()
-        .take(if cfg!(miri) { 6 } else { 8 })
-        .flat_map(|shape| [0, 1, 2].map(|parts| (shape, parts)))
+    let shapes = [(1, 7), (5, 3), (4, 4), (16, 16), (17, 19), (33, 40), (64, 48), (300, 60)];
+    for ((width, height), parts) in
+        shapes.into_iter().take(if cfg!(miri) { 6 } else { 8 }).flat_map(|shape| [0, 1, 2].map(|parts| (shape, parts)))
     {
         let input: Vec<T> = (0..width * height).map(&item).collect();
         let mut output = vec![item(0); input.len()];
@@ -124,10 +113,7 @@ fn padding_and_pointers() {
     serves(|i| i % 3 == 0);
     serves(|i| (i % 2 > 0).then_some(i % 3 > 0));
     serves(|i| i.cmp(&9));
-    serves(|i| Padded {
-        small: i as u8,
-        large: !(i as u32),
-    });
+    serves(|i| Padded { small: i as u8, large: !(i as u32) });
     serves(|i| (i as u16, i as u8));
     serves(|i| Aligned(i as u8));
     serves(|i| (i % 3 > 0).then_some(i as u32));

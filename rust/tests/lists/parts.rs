@@ -180,10 +180,7 @@ fn lists_that_are_cut() {
 #[test]
 fn parts_that_are_not_run() {
     let input: Vec<u32> = (1..=60 * 40).collect();
-    for ((width, height), kept) in [(60, 40), (40, 60)]
-        .into_iter()
-        .flat_map(|shape| [(shape, 0), (shape, 1)])
-    {
+    for ((width, height), kept) in [(60, 40), (40, 60)].into_iter().flat_map(|shape| [(shape, 0), (shape, 1)]) {
         let mut output = vec![0; input.len()];
         let part = transpose(&input, &mut output, width, height, 3).nth(kept);
         part.unwrap().run();

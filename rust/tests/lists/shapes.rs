@@ -36,26 +36,14 @@ fn check_shape<T: Copy + PartialEq + Send + Sync>(item: &impl Fn(usize) -> T, (w
 }
 
 /// The shapes of the original's tests with a side above 70, except single rows and columns and the large ones.
-const SHAPES: [(usize, usize); 7] = [
-    (17, 96),
-    (96, 17),
-    (120, 140),
-    (128, 129),
-    (140, 120),
-    (300, 60),
-    (60, 300),
-];
+const SHAPES: [(usize, usize); 7] = [(17, 96), (96, 17), (120, 140), (128, 129), (140, 120), (300, 60), (60, 300)];
 
 /// Every pair of sides up to 70, a single row and a single column of up to 256 items and of about 4096, `SHAPES`, and a large
 /// matrix that is split.
 fn check_shapes<T: Copy + PartialEq + Send + Sync>(item: impl Fn(usize) -> T) {
     let pairs = (1..=70).flat_map(|width| (1..=70).map(move |height| (width, height)));
     let lines = (71..=256).chain(4095..=4097).flat_map(|len| [(len, 1), (1, len)]);
-    pairs
-        .chain(lines)
-        .chain(SHAPES)
-        .chain([(1025, 1025)])
-        .for_each(|shape| check_shape(&item, shape));
+    pairs.chain(lines).chain(SHAPES).chain([(1025, 1025)]).for_each(|shape| check_shape(&item, shape));
 }
 
 #[test]

@@ -122,16 +122,7 @@ fn moves_unwritten<const N: usize>() {
             }
         });
     }
-    let small = [
-        (1, 9),
-        (2, 3),
-        (8, 8),
-        (16, 16),
-        (17, 19),
-        (40, 64),
-        (64, 130),
-        (300, 180),
-    ];
+    let small = [(1, 9), (2, 3), (8, 8), (16, 16), (17, 19), (40, 64), (64, 130), (300, 180)];
     // Lists of 32 MiB are put past the caches.
     let large = matches!(N, 4 | 8 | 16).then_some(((1 << 25) / N / 1024, 1024));
     for (width, height) in small.into_iter().chain(large) {

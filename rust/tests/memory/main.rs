@@ -86,10 +86,8 @@ fn a_refusal_names_the_callers_place() {
 
 #[test]
 fn a_refused_pair_leaves_the_map() {
-    let calls: [fn(&mut LinearMap<u8, u8>); 2] = [
-        |map| _ = map.insert(3, 4),
-        |map| _ = map.get_or_insert_with(3, || panic!("no room for a value")),
-    ];
+    let calls: [fn(&mut LinearMap<u8, u8>); 2] =
+        [|map| _ = map.insert(3, 4), |map| _ = map.get_or_insert_with(3, || panic!("no room for a value"))];
     let mut map = LinearMap::with_capacity(1);
     assert_eq!(map.insert(1, 2), None);
     for call in calls {

@@ -201,11 +201,7 @@ fn pairs_under_stated_lengths() {
         assert_eq!((pairs.size_hint(), pairs.len()), ((2, Some(2)), 2));
         let mut given = vec![];
         let differ = first.len() != second.len();
-        assert_eq!(
-            panics(|| pairs.by_ref().for_each(|pair| given.push(pair))),
-            differ,
-            "{first:?} {second:?}"
-        );
+        assert_eq!(panics(|| pairs.by_ref().for_each(|pair| given.push(pair))), differ, "{first:?} {second:?}");
         assert_eq!(given, wanted);
     }
 }

@@ -62,16 +62,10 @@ fn stored_keys_are_compared_with_the_given_one() {
     assert_eq!((map[&given], compared.take().as_str()), (1, "aBbB"));
     let again = Named { name: 'B', compared };
     assert_eq!((map.insert(again, 2), compared.take().as_str()), (Some(1), "aBbB"));
-    assert_eq!(
-        (*map.get_or_insert_with(given, || 3), compared.take().as_str()),
-        (2, "aBbB")
-    );
+    assert_eq!((*map.get_or_insert_with(given, || 3), compared.take().as_str()), (2, "aBbB"));
     let [d, e] = ['d', 'e'].map(|name| Named { name, compared });
     assert_eq!((map.insert(d, 4), compared.take().as_str()), (None, "adbdcd"));
-    assert_eq!(
-        (*map.get_or_insert_with(e, || 5), compared.take().as_str()),
-        (5, "aebecede")
-    );
+    assert_eq!((*map.get_or_insert_with(e, || 5), compared.take().as_str()), (5, "aebecede"));
 }
 
 #[test]
@@ -79,15 +73,9 @@ fn iterators_from_both_ends() {
     let map = LinearMap::from_iter([(1, 'a'), (2, 'b'), (3, 'c')]);
     let (mut pairs, mut keys, mut values) = (map.iter(), map.keys(), map.values());
     let lens = |pairs: &Iter<_>, keys: &Keys<_, _>, values: &Values<_, _>| [pairs.len(), keys.len(), values.len()];
-    assert_eq!(
-        (pairs.next_back(), keys.next_back(), values.next_back()),
-        (Some(&(3, 'c')), Some(&3), Some(&'c'))
-    );
+    assert_eq!((pairs.next_back(), keys.next_back(), values.next_back()), (Some(&(3, 'c')), Some(&3), Some(&'c')));
     assert_eq!(lens(&pairs, &keys, &values), [2; 3]);
-    assert_eq!(
-        (pairs.next(), keys.next(), values.next()),
-        (Some(&(1, 'a')), Some(&1), Some(&'a'))
-    );
+    assert_eq!((pairs.next(), keys.next(), values.next()), (Some(&(1, 'a')), Some(&1), Some(&'a')));
     assert_eq!(lens(&pairs.clone(), &keys.clone(), &values.clone()), [1; 3]);
     assert!(pairs.rev().eq(&[(2, 'b')]) && keys.rev().eq(&[2]) && values.rev().eq(&['b']));
 }
@@ -98,10 +86,7 @@ fn iterators_over_owners_are_cloned() {
     let drops = AtomicUsize::new(0);
     let map = LinearMap::from_iter([1, 2, 3].map(|i| (Owner::new(i, &drops), Owner::new(10 * i, &drops))));
     let (mut pairs, mut keys, mut values) = (map.iter(), map.keys(), map.values());
-    assert_eq!(
-        (pairs.next().map(|pair| pair.0.number), keys.len(), values.len()),
-        (Some(1), 3, 3)
-    );
+    assert_eq!((pairs.next().map(|pair| pair.0.number), keys.len(), values.len()), (Some(1), 3, 3));
     keys.nth(1);
     values.next_back();
     assert!(pairs.clone().map(|pair| pair.1.number).eq([20, 30]) && pairs.len() == 2);

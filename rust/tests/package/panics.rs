@@ -23,10 +23,7 @@ fn texts_of_the_original() {
         (|| _ = log2_strict_usize(0), "Not a power of two"),
         (|| _ = log2_strict_usize(6), "Not a power of two"),
         (|| _ = log3_strict_usize(0), "log3_strict_usize: input must be non-zero"),
-        (
-            || _ = log3_strict_usize(6),
-            "log3_strict_usize: input is not a power of 3",
-        ),
+        (|| _ = log3_strict_usize(6), "log3_strict_usize: input is not a power of 3"),
         (
             || transpose(&[0u8; 5], &mut [0; 6], 3, 2),
             "assertion `left == right` failed: Input length 5 doesn't match width*height = 6\n  left: 5\n right: 6",
@@ -39,14 +36,8 @@ fn texts_of_the_original() {
             || transpose(&[0u8; 4], &mut [0; 5], 3, 2),
             "assertion `left == right` failed: Input length 4 doesn't match width*height = 6\n  left: 4\n right: 6",
         ),
-        (
-            || _ = LinearMap::<u8, u8>::new()[&1],
-            "called `Option::unwrap()` on a `None` value",
-        ),
-        (
-            || _ = LinearMap::<u8, u16>::with_capacity(usize::MAX / 4),
-            "capacity overflow",
-        ),
+        (|| _ = LinearMap::<u8, u8>::new()[&1], "called `Option::unwrap()` on a `None` value"),
+        (|| _ = LinearMap::<u8, u16>::with_capacity(usize::MAX / 4), "capacity overflow"),
     ];
     for (call, original) in cases {
         check_text(*call, original, "");
@@ -94,11 +85,7 @@ fn texts_of_rows() {
 fn digits_by_other_numbers() {
     if cfg!(debug_assertions) {
         check_text(|| _ = reverse_bits(1, 6), "assertion failed: n.is_power_of_two()", "");
-        check_text(
-            || _ = reverse_bits_len(1, ALL + 1),
-            "assertion failed: bit_len <= usize::BITS as usize",
-            "",
-        );
+        check_text(|| _ = reverse_bits_len(1, ALL + 1), "assertion failed: bit_len <= usize::BITS as usize", "");
     } else {
         let by_len = [(1, ALL + 1), (11, ALL + 6), (1, 1 << (ALL / 2)), (5, usize::MAX)]
             .map(|(x, bit_len)| reverse_bits_len(x, bit_len));
@@ -156,16 +143,7 @@ fn check_lengths(lengths: [usize; 2], (width, height): (usize, usize)) {
 #[test]
 fn matrices_of_all_lengths() {
     for (input, output) in (0..=13).flat_map(|input| (0..=13).map(move |output| (input, output))) {
-        for shape in [
-            (3, 4),
-            (4, 3),
-            (12, 1),
-            (1, 12),
-            (1, 1),
-            (0, 5),
-            (5, 0),
-            (usize::MAX, 0),
-        ] {
+        for shape in [(3, 4), (4, 3), (12, 1), (1, 12), (1, 1), (0, 5), (5, 0), (usize::MAX, 0)] {
             check_lengths([input, output], shape);
         }
     }
@@ -179,12 +157,7 @@ fn matrices_of_all_lengths() {
 /// The products of these sides are 0 or 1 if they wrap. The text has the product without wrapping.
 #[test]
 fn matrices_whose_product_wraps() {
-    let shapes = [
-        (1 << (ALL / 2), 1 << (ALL / 2)),
-        (1 << (ALL - 1), 2),
-        (2, 1 << (ALL - 1)),
-        (usize::MAX, usize::MAX),
-    ];
+    let shapes = [(1 << (ALL / 2), 1 << (ALL / 2)), (1 << (ALL - 1), 2), (2, 1 << (ALL - 1)), (usize::MAX, usize::MAX)];
     for shape in shapes {
         for lengths in [[0, 0], [1, 1], [0, 1], [1, 0]] {
             check_lengths(lengths, shape);

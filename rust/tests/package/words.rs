@@ -35,10 +35,7 @@ fn powers_and_their_neighbours() {
         for bits in 0..=usize::BITS {
             let wanted = reversed(if bits == 0 { usize::BITS } else { bits }, n);
             assert_eq!(reverse_bits_len(n, bits as usize), wanted, "{n} {bits}");
-            assert!(
-                bits == usize::BITS || reverse_bits(n, 1 << bits) == wanted,
-                "{n} {bits}"
-            );
+            assert!(bits == usize::BITS || reverse_bits(n, 1 << bits) == wanted, "{n} {bits}");
         }
     }
 }
@@ -102,18 +99,8 @@ const OTHERS: (usize, usize, u64, usize, usize) = (
     log3_strict_usize(531_441),
     reverse_bits(0b01011, ROWS),
 );
-const WHOLE: Region = Region {
-    row_start: 0,
-    row_end: 2,
-    col_start: 0,
-    col_end: 3,
-};
-const FITS: [bool; 4] = [
-    fits_rows(12, 3),
-    fits_matrix(6, 6, 3, 3),
-    fits_square(9, 1, 2, 1),
-    WHOLE.fits(2, 3),
-];
+const WHOLE: Region = Region { row_start: 0, row_end: 2, col_start: 0, col_end: 3 };
+const FITS: [bool; 4] = [fits_rows(12, 3), fits_matrix(6, 6, 3, 3), fits_square(9, 1, 2, 1), WHOLE.fits(2, 3)];
 const CHECKED: (Option<usize>, Option<(usize, usize)>) =
     (checked_pow2(usize::BITS as usize), checked_log_size_sum(20, 3));
 

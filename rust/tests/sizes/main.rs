@@ -79,17 +79,10 @@ impl List {
     /// Items of `size` bytes, of which number `i` is the one with the number `number(i)`.
     fn new(size: usize, offset: usize, len: usize, number: impl Fn(usize) -> usize) -> Self {
         let words = vec![[0]; (offset + size * len) / 8 + 2];
-        let mut list = List {
-            words,
-            offset,
-            size,
-            len,
-        };
+        let mut list = List { words, offset, size, len };
         list.all().fill(AROUND);
         for (i, item) in list.bytes().chunks_exact_mut(size).enumerate() {
-            item.iter_mut()
-                .enumerate()
-                .for_each(|(at, to)| *to = byte(number(i), at));
+            item.iter_mut().enumerate().for_each(|(at, to)| *to = byte(number(i), at));
         }
         list
     }
@@ -114,10 +107,7 @@ fn check_bytes(size: usize, len: usize, mut call: impl FnMut(&mut [u8]), wanted:
         let mut list = List::new(size, offset, len, |i| i);
         call(list.bytes());
         let mut right = List::new(size, offset, len, &wanted);
-        assert!(
-            list.all() == right.all(),
-            "{name}, {len} items of {size} bytes at {offset}"
-        );
+        assert!(list.all() == right.all(), "{name}, {len} items of {size} bytes at {offset}");
     }
 }
 
@@ -135,13 +125,7 @@ fn rows() {
     for of in SIZES {
         for (bits, width) in [(1, 2), (4, 3), (6, 4), (8, 2), (4, 8), (2, 17), (2, 32)] {
             let wanted = |i: usize| reversed(bits, i / width) * width + i % width;
-            check_bytes(
-                of.size,
-                width << bits,
-                |list| (of.reverse_rows)(list, width),
-                wanted,
-                "rows",
-            );
+            check_bytes(of.size, width << bits, |list| (of.reverse_rows)(list, width), wanted, "rows");
         }
     }
 }
@@ -160,15 +144,8 @@ fn reversals_by_parts() {
 }
 
 /// The shapes of the matrices, and how many parts they are cut into.
-const SHAPES: [(usize, usize, usize); 7] = [
-    (2, 3, 1),
-    (4, 4, 1),
-    (8, 16, 1),
-    (16, 16, 1),
-    (11, 13, 1),
-    (33, 9, 3),
-    (17, 40, 3),
-];
+const SHAPES: [(usize, usize, usize); 7] =
+    [(2, 3, 1), (4, 4, 1), (8, 16, 1), (16, 16, 1), (11, 13, 1), (33, 9, 3), (17, 40, 3)];
 
 #[test]
 fn transposes() {

@@ -106,11 +106,7 @@ mod reversals {
 
     /// How many items a reversal has room for on the stack in a release build. With the feature `checked`, std's `swap` makes
     /// the exchanges. On 32 bits, the compiler may inline the kernels.
-    const ITEMS: usize = if cfg!(any(feature = "checked", target_pointer_width = "32")) {
-        2
-    } else {
-        0
-    };
+    const ITEMS: usize = if cfg!(any(feature = "checked", target_pointer_width = "32")) { 2 } else { 0 };
 
     fn check_reversals<const SIZE: usize>(more: &[u32]) {
         for bits in [1, 4, 7, 8].into_iter().chain(more.iter().copied()) {

@@ -78,35 +78,14 @@ fn transposes(width: usize, height: usize) {
 fn calls() {
     (15..=18).for_each(|digits| reverses(digits, 16, |i| i as u32));
     (14..=16).for_each(|digits| reverses::<[u64; 8]>(digits, 15, |i| from_fn(|part| (8 * i + part) as u64)));
-    let rows = [
-        (16, 1),
-        (17, 1),
-        (15, 2),
-        (16, 2),
-        (14, 3),
-        (15, 3),
-        (3, 1 << 13),
-        (4, 1 << 13),
-        (0, 1 << 17),
-    ];
-    rows.into_iter()
-        .for_each(|(digits, width)| reverses_rows(digits, width));
-    let shapes = [
-        (512, 512),
-        (511, 513),
-        (1, 1 << 18),
-        (1 << 18, 1),
-        (4095, 64),
-        (64, 4097),
-        (3, 87_382),
-    ];
+    let rows = [(16, 1), (17, 1), (15, 2), (16, 2), (14, 3), (15, 3), (3, 1 << 13), (4, 1 << 13), (0, 1 << 17)];
+    rows.into_iter().for_each(|(digits, width)| reverses_rows(digits, width));
+    let shapes = [(512, 512), (511, 513), (1, 1 << 18), (1 << 18, 1), (4095, 64), (64, 4097), (3, 87_382)];
     shapes.into_iter().for_each(|(width, height)| transposes(width, height));
     // Items without bytes are never moved.
     run(false, || reverse_slice_index_bits(&mut [(); 1 << 40]));
     run(false, || reverse_slice_row_index_bits(&mut [(); 3 << 40], 3));
-    run(false, || {
-        transpose(&[(); 1 << 40], &mut [(); 1 << 40], 1 << 20, 1 << 20)
-    });
+    run(false, || transpose(&[(); 1 << 40], &mut [(); 1 << 40], 1 << 20, 1 << 20));
 }
 
 fn pool(threads: usize) -> ThreadPool {

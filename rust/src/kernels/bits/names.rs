@@ -28,8 +28,7 @@ pub fn pretty_name(alloc: Global, name: &str) -> Result<String, AllocError> {
 
 /// The index of the first `<`, `>` or `,`.
 fn first_mark(name: &str) -> Option<usize> {
-    name.bytes()
-        .position(|b| b == b'<' || b == b'>' || b == b',')
+    name.bytes().position(|b| b == b'<' || b == b'>' || b == b',')
 }
 
 /// The part after the last `::`, or the whole text if there is none.

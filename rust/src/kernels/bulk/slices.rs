@@ -2,10 +2,10 @@
 //! How the holders of slices make many steps at once: runs of places are exchanged as slices, and the
 //! rows of a block are read as slices.
 
-#[cfg(target_pointer_width = "32")]
-use crate::width::Index as usize;
 use crate::kernels::bulk::{Ahead, Block, Blocked, Tiled};
 use crate::kernels::places::{SliceCells, SlicePlaces, SliceSource, len_fits};
+#[cfg(target_pointer_width = "32")]
+use crate::width::Index as usize;
 
 impl<'a, F> Tiled for SlicePlaces<'a, F> {
     #[inline(always)]
@@ -19,7 +19,8 @@ impl<'a, F> Tiled for SlicePlaces<'a, F> {
 fn exchange_runs_of_items<F>(items: &mut [F], i: usize, j: usize, len: usize) {
     let (low, high) = (i.min(j), i.max(j));
     let (front, back) = items.split_at_mut(high as core::primitive::usize);
-    front[low as core::primitive::usize..(low + len) as core::primitive::usize].swap_with_slice(&mut back[..len as core::primitive::usize]);
+    front[low as core::primitive::usize..(low + len) as core::primitive::usize]
+        .swap_with_slice(&mut back[..len as core::primitive::usize]);
 }
 
 impl<'a, T: Copy> Blocked for SliceCells<'a, T> {
@@ -27,14 +28,8 @@ impl<'a, T: Copy> Blocked for SliceCells<'a, T> {
     fn put_block<R: Ahead<Item = T>>(&mut self, source: &R, block: Block) {
         match source.as_slice() {
             Some(items) if block.rows == 4 && block.cols > 0 => put_four(self.values, items, block),
-            Some(items) if block.rows == 8 && block.cols > 0 => put_eight(
-                self.values,
-                items,
-                block,
-            ),
-            Some(items) if block.rows == 16 && block.cols > 0 => {
-                put_sixteen(self.values, items, block)
-            }
+            Some(items) if block.rows == 8 && block.cols > 0 => put_eight(self.values, items, block),
+            Some(items) if block.rows == 16 && block.cols > 0 => put_sixteen(self.values, items, block),
             _ => self.put_block_singly(source, block),
         }
     }
@@ -43,12 +38,7 @@ impl<'a, T: Copy> Blocked for SliceCells<'a, T> {
 /// Puts a block of 4 rows.
 #[inline(always)]
 fn put_four<T: Copy>(values: &mut [T], items: &[T], block: Block) {
-    let rows = [
-        row_of(items, block, 0),
-        row_of(items, block, 1),
-        row_of(items, block, 2),
-        row_of(items, block, 3),
-    ];
+    let rows = [row_of(items, block, 0), row_of(items, block, 1), row_of(items, block, 2), row_of(items, block, 3)];
     put_rows(values, items, &rows, block);
 }
 
@@ -106,7 +96,11 @@ fn put_rows<T: Copy>(values: &mut [T], items: &[T], rows: &[&[T]], block: Block)
     len_fits(items.len() as usize);
     for col in 0..block.cols {
         let at = block.to + col * block.height;
-        put_column(&mut values[at as core::primitive::usize..(at + rows.len() as usize) as core::primitive::usize], rows, col);
+        put_column(
+            &mut values[at as core::primitive::usize..(at + rows.len() as usize) as core::primitive::usize],
+            rows,
+            col,
+        );
     }
 }
 

@@ -2,8 +2,8 @@
 //! The iterators that lend the pairs, the keys or the values of a map, in its order. A contract
 //! sees each of them as the list of the items that are left.
 
-use core::slice;
 use core::iter::FusedIterator;
+use core::slice;
 
 /// The pairs of a map, in order.
 #[derive(Debug)]
@@ -15,9 +15,7 @@ pub struct Iter<'a, K, V> {
 /// A clone has the same pairs left. It allocates nothing.
 impl<'a, K, V> Clone for Iter<'a, K, V> {
     fn clone(&self) -> Iter<'a, K, V> {
-        Iter {
-            pairs: self.pairs.clone(),
-        }
+        Iter { pairs: self.pairs.clone() }
     }
 }
 
@@ -61,9 +59,7 @@ pub struct Keys<'a, K, V> {
 /// A clone has the same keys left. It allocates nothing.
 impl<'a, K, V> Clone for Keys<'a, K, V> {
     fn clone(&self) -> Keys<'a, K, V> {
-        Keys {
-            pairs: self.pairs.clone(),
-        }
+        Keys { pairs: self.pairs.clone() }
     }
 }
 
@@ -107,9 +103,7 @@ pub struct Values<'a, K, V> {
 /// A clone has the same values left. It allocates nothing.
 impl<'a, K, V> Clone for Values<'a, K, V> {
     fn clone(&self) -> Values<'a, K, V> {
-        Values {
-            pairs: self.pairs.clone(),
-        }
+        Values { pairs: self.pairs.clone() }
     }
 }
 

@@ -12,11 +12,7 @@ const SHORT_ITEM: usize = 32;
 
 /// The greatest number of items of `size` bytes that are left as one part.
 pub(crate) const fn one_part_items(size: usize) -> usize {
-    if size <= SHORT_ITEM {
-        ONE_PART_ITEMS
-    } else {
-        ONE_PART_BYTES / size
-    }
+    if size <= SHORT_ITEM { ONE_PART_ITEMS } else { ONE_PART_BYTES / size }
 }
 
 /// Into how many ranges a side of a grid is cut at most if the caller asks for `parts` parts, 0 for 1. A grid that is cut into P
@@ -28,9 +24,5 @@ const fn ranges_of_side(parts: usize) -> usize {
 
 /// Into how many ranges each side of a grid is cut at most, for a list of `len` items. Up to `one_part` items are one part.
 pub(crate) const fn ranges_if_cut(len: usize, one_part: usize, parts: usize) -> Option<usize> {
-    if len <= one_part {
-        None
-    } else {
-        Some(ranges_of_side(parts))
-    }
+    if len <= one_part { None } else { Some(ranges_of_side(parts)) }
 }

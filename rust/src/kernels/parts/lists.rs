@@ -9,7 +9,7 @@ pub(crate) trait Shared {
     /// A share of the list for the next part.
     fn share(&mut self) -> Self
     where
-        Self: Sized,;
+        Self: Sized;
 }
 
 /// What each part of a call is given besides its share of the list.
@@ -39,11 +39,7 @@ pub(crate) struct PartToRun<L: Shared, P: Plan, I: Given<P>> {
 impl<L: Shared, P: Plan, I: Given<P>> PartsToRun<L, P, I> {
     /// All parts of a call on this list.
     pub(crate) fn of(list: L, plan: P, given: I) -> Self {
-        PartsToRun {
-            list,
-            left: PartsLeft::of(plan),
-            given,
-        }
+        PartsToRun { list, left: PartsLeft::of(plan), given }
     }
 
     /// The number of parts that are left.
@@ -54,11 +50,7 @@ impl<L: Shared, P: Plan, I: Given<P>> PartsToRun<L, P, I> {
     /// Hands out the next part. Each call that returns a part returns the one with the next number.
     pub(crate) fn hand_out(&mut self) -> Option<PartToRun<L, P, I>> {
         let part = self.left.hand_out()?;
-        Some(PartToRun {
-            share: self.list.share(),
-            part,
-            given: self.given,
-        })
+        Some(PartToRun { share: self.list.share(), part, given: self.given })
     }
 }
 

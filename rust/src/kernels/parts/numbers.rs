@@ -24,11 +24,7 @@ pub(crate) struct PartsLeft<P: Plan> {
 impl<P: Plan> PartsLeft<P> {
     /// All parts of a plan.
     pub(crate) fn of(plan: P) -> Self {
-        PartsLeft {
-            plan,
-            next: 0,
-            end: plan.count(),
-        }
+        PartsLeft { plan, next: 0, end: plan.count() }
     }
 
     /// The number of parts that are left.
@@ -43,10 +39,7 @@ impl<P: Plan> PartsLeft<P> {
         }
         let number = self.next;
         self.next += 1;
-        Some(Part {
-            plan: self.plan,
-            number,
-        })
+        Some(Part { plan: self.plan, number })
     }
 }
 

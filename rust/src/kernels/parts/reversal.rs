@@ -1,11 +1,11 @@
 // rust/erase writes this file from crates/p3_util_dispatch/src/parts/reversal.rt. Make changes there.
 //! The parts that a reversal is cut into.
 
-use crate::kernels::parts::RowPairs;
-use crate::kernels::parts::numbers::{Part, Plan};
+use crate::kernels::bits::pow2;
 use crate::kernels::bulk::Tiled;
 use crate::kernels::grid::{exchange_quadrants, exchange_region};
-use crate::kernels::bits::pow2;
+use crate::kernels::parts::RowPairs;
+use crate::kernels::parts::numbers::{Part, Plan};
 
 /// How the reversal of rows is cut.
 #[derive(Clone, Copy)]
@@ -22,9 +22,7 @@ impl ReversalPlan {
     /// there are items, it has the patches of [`RowPairs::new`].
     pub(crate) fn new(len: usize, row_width: usize, parts: Option<usize>) -> ReversalPlan {
         match parts {
-            Some(parts) if len > 0 => {
-                ReversalPlan::Patches(RowPairs::new(len, row_width, parts))
-            }
+            Some(parts) if len > 0 => ReversalPlan::Patches(RowPairs::new(len, row_width, parts)),
             _ => ReversalPlan::Whole(len, row_width),
         }
     }
@@ -61,10 +59,7 @@ impl Part<ReversalPlan> {
         let Part { plan, number } = self;
         match plan {
             ReversalPlan::Whole(_, row_width) => Work::Rows(row_width),
-            ReversalPlan::Patches(pairs) => Work::Patch(Part {
-                plan: pairs,
-                number,
-            }),
+            ReversalPlan::Patches(pairs) => Work::Patch(Part { plan: pairs, number }),
         }
     }
 }

@@ -3,8 +3,8 @@
 
 use crate::kernels::parts::Cut;
 use crate::kernels::parts::numbers::{Part, Plan};
-use crate::kernels::strips::UNIT;
 use crate::kernels::places::Source;
+use crate::kernels::strips::UNIT;
 use crate::kernels::transpose::{Matrix, Region};
 
 /// The transpose of a matrix of `height` rows of `width` items, cut into regions of neighbouring
@@ -21,12 +21,7 @@ impl TransposePlan {
     /// Cuts the longer side into at most `parts` parts, at multiples of `UNIT`. If
     /// `may_cut_rows` is false, the columns are cut, whichever side is longer. A `parts` of 0
     /// counts as 1. A matrix without items has no region.
-    pub(crate) fn new(
-        width: usize,
-        height: usize,
-        parts: usize,
-        may_cut_rows: bool,
-    ) -> TransposePlan {
+    pub(crate) fn new(width: usize, height: usize, parts: usize, may_cut_rows: bool) -> TransposePlan {
         let by_rows = may_cut_rows && height > width;
         let side = if width == 0 || height == 0 {
             0
@@ -35,31 +30,16 @@ impl TransposePlan {
         } else {
             width
         };
-        TransposePlan {
-            width,
-            height,
-            by_rows,
-            cut: Cut::new(side, parts, UNIT),
-        }
+        TransposePlan { width, height, by_rows, cut: Cut::new(side, parts, UNIT) }
     }
 
     /// Region `number`.
     pub(crate) fn region(self, number: usize) -> Region {
         let (from, to) = self.cut.part(number);
         if self.by_rows {
-            Region {
-                row_start: from,
-                row_end: to,
-                col_start: 0,
-                col_end: self.width,
-            }
+            Region { row_start: from, row_end: to, col_start: 0, col_end: self.width }
         } else {
-            Region {
-                row_start: 0,
-                row_end: self.height,
-                col_start: from,
-                col_end: to,
-            }
+            Region { row_start: 0, row_end: self.height, col_start: from, col_end: to }
         }
     }
 
@@ -73,11 +53,7 @@ impl TransposePlan {
     /// The number of items of the first region, or 0 if there is none. If the columns are cut, each region fills so many cells,
     /// and the last one may fill fewer. They are next to each other, and right after those of the region before it.
     pub(crate) fn cells_of_region(self) -> usize {
-        if self.cut.count() == 0 {
-            0
-        } else {
-            self.items(0)
-        }
+        if self.cut.count() == 0 { 0 } else { self.items(0) }
     }
 }
 

@@ -5,9 +5,9 @@
 //! each step that the holder inside makes. No other module can reach the fields of a counter. So
 //! whoever has one can change the list inside only by steps that are counted.
 
+use crate::kernels::places::{Cells, Places, len_fits};
 #[cfg(target_pointer_width = "32")]
 use crate::width::Index as usize;
-use crate::kernels::places::{Cells, Places, len_fits};
 
 /// A counter around a holder of places. It counts exchanges. The count stops at `u128::MAX`.
 #[derive(Debug)]

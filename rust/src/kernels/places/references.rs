@@ -2,9 +2,9 @@
 //! References to holders. Such a reference is a holder too: each step and each read is made by the
 //! holder behind the reference.
 
+use crate::kernels::places::{Cells, Places, Source};
 #[cfg(target_pointer_width = "32")]
 use crate::width::Index as usize;
-use crate::kernels::places::{Cells, Places, Source};
 
 /// The holder behind the reference makes the exchanges.
 impl<S: Places> Places for &mut S {

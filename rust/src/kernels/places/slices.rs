@@ -2,9 +2,9 @@
 //! The holders of slices. [`SlicePlaces`] exchanges items, [`SliceCells`] puts items into the
 //! slice, and [`SliceSource`] reads items.
 
+use crate::kernels::places::{Cells, Places, Source};
 #[cfg(target_pointer_width = "32")]
 use crate::width::Index as usize;
-use crate::kernels::places::{Cells, Places, Source};
 
 /// The places of a mutable slice. All changes are made in the slice itself.
 #[derive(Debug)]

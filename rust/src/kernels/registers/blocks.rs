@@ -2,9 +2,9 @@
 //! How a holder puts a block: by whole cache lines, by squares, or item by item.
 
 use crate::kernels::bulk::{Ahead, Block, Blocked};
+use crate::kernels::places::Cells;
 use crate::kernels::registers::line_blocks::put_by_lines;
 use crate::kernels::registers::{Loads, Register, Runs, put_by_squares};
-use crate::kernels::places::Cells;
 
 /// Cells into which runs are put, too.
 pub(crate) trait RunsOfCells<T: Copy, D: Register<T>>: Runs<T, D> + Cells<Item = T> {}
@@ -34,7 +34,12 @@ pub(crate) fn put_block_in_squares<
     S: Loads<T, D>,
     R: Ahead<Item = T>,
     M: SquaresOfCells<T, D> + Blocked,
->(cells: &mut M, runs: &S, source: &R, block: Block) {
+>(
+    cells: &mut M,
+    runs: &S,
+    source: &R,
+    block: Block,
+) {
     let side = D::SIDE;
     match M::SQUARE {
         0 | 1 => {}
@@ -58,7 +63,12 @@ pub(crate) fn put_block_in_lines<
     S: Loads<T, D>,
     R: Ahead<Item = T>,
     M: LinesOfCells<T, D> + Blocked,
->(cells: &mut M, runs: &S, source: &R, block: Block) {
+>(
+    cells: &mut M,
+    runs: &S,
+    source: &R,
+    block: Block,
+) {
     let (side, len) = (D::SIDE, source.len());
     if is_of_lines(side, block, len) && cells.may_stream_lines(block) {
         put_by_lines(cells, runs, block);
@@ -74,8 +84,7 @@ fn is_of_lines(side: usize, block: Block, len: usize) -> bool {
     if side != 1 && side != 2 && side != 4 || block.rows != 4 * side {
         return false;
     }
-    block.cols == block.rows
-        || block.cols == 1 && block.from + (block.rows - 1) * block.width + side <= len
+    block.cols == block.rows || block.cols == 1 && block.from + (block.rows - 1) * block.width + side <= len
 }
 
 /// Whether a block has `square` rows and columns, and registers whose halves have `side` items transpose it.

@@ -56,11 +56,7 @@ fn put_some_lines<T, D: Register<T>, S: Loads<T, D>, M: Runs<T, D>>(
 
 /// Puts a block of one column. Of each row, the registers have some items to the right of this column too.
 #[inline(always)]
-fn put_one_line<T, D: Register<T>, S: Loads<T, D>, M: Runs<T, D>>(
-    cells: &mut M,
-    source: &S,
-    block: Block,
-) {
+fn put_one_line<T, D: Register<T>, S: Loads<T, D>, M: Runs<T, D>>(cells: &mut M, source: &S, block: Block) {
     let side = D::SIDE;
     let top = load_lines(source, block.from, block.width);
     if side == 2 {
@@ -73,12 +69,7 @@ fn put_one_line<T, D: Register<T>, S: Loads<T, D>, M: Runs<T, D>>(
 
 /// Puts a column of a block of 4 rows.
 #[inline(always)]
-fn put_four<T, D: Register<T>, S: Loads<T, D>, M: Runs<T, D>>(
-    cells: &mut M,
-    source: &S,
-    block: Block,
-    col: usize,
-) {
+fn put_four<T, D: Register<T>, S: Loads<T, D>, M: Runs<T, D>>(cells: &mut M, source: &S, block: Block, col: usize) {
     let from = block.from + col;
     let a = load_two(source, from, from + block.width);
     let b = load_two(source, from + 2 * block.width, from + 3 * block.width);
@@ -88,11 +79,7 @@ fn put_four<T, D: Register<T>, S: Loads<T, D>, M: Runs<T, D>>(
 /// Does what `Blocked::put_block` does, for blocks of 4 * `D::SIDE` rows and as many columns, or of one column, column after
 /// column.
 #[inline(always)]
-pub(crate) fn put_by_lines<T, D: Register<T>, S: Loads<T, D>, M: Runs<T, D>>(
-    cells: &mut M,
-    source: &S,
-    block: Block,
-) {
+pub(crate) fn put_by_lines<T, D: Register<T>, S: Loads<T, D>, M: Runs<T, D>>(cells: &mut M, source: &S, block: Block) {
     let side = D::SIDE;
     if side > 1 && block.cols == 1 {
         put_one_line(cells, source, block);

@@ -2,19 +2,15 @@
 //! How a holder exchanges two tiles, or transposes one: in registers, or by single exchanges.
 
 use crate::kernels::bulk::Tiled;
-use crate::kernels::registers::{Register, Runs, exchange_tiles, turn_tile};
 use crate::kernels::places::Places;
+use crate::kernels::registers::{Register, Runs, exchange_tiles, turn_tile};
 
 /// Places of which tiles are exchanged and transposed by runs, too.
 pub(crate) trait RunsOfPlaces<T, D: Register<T>>: Runs<T, D> + Places<Item = T> {}
 
 /// Does what `Tiled::exchange_tiles` does: in registers if squares have 2, 4 or 8 rows, and otherwise item by item.
 #[inline(always)]
-pub(crate) fn exchange_both<T, D: Register<T>, M: RunsOfPlaces<T, D>>(
-    list: &mut M,
-    x: [usize; 8],
-    y: [usize; 8],
-) {
+pub(crate) fn exchange_both<T, D: Register<T>, M: RunsOfPlaces<T, D>>(list: &mut M, x: [usize; 8], y: [usize; 8]) {
     match D::SIDE {
         2 | 4 | 8 => exchange_tiles(list, x, y),
         _ => exchange_singly(list, x, y),

@@ -14,11 +14,11 @@
 //! [`reverse_index_bits_long`](crate::kernels::reverse::reverse_index_bits_long) makes the three passes. This
 //! module has the second one. The other two reverse the order of rows, as the short path does.
 
-#[cfg(target_pointer_width = "32")]
-use crate::width::Index as usize;
 use crate::kernels::bits::pow2;
 use crate::kernels::places::{Places, Swaps};
 use crate::kernels::transpose::transpose_square_on;
+#[cfg(target_pointer_width = "32")]
+use crate::width::Index as usize;
 
 /// Transposes the squares that lie side by side in `m`. The list is `2^log_size` rows of
 /// `2^log_stride` items. So there is one square if the two numbers are equal, and there are two if

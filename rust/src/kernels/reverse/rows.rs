@@ -5,16 +5,16 @@
 //! Each pair of rows whose indices are each other's reverse is swapped once, item by item. All
 //! other rows stay where they are.
 
-#[cfg(target_pointer_width = "32")]
-use crate::width::Index as usize;
 use crate::kernels::bits::pow2;
 use crate::kernels::places::{Places, Swaps};
+#[cfg(target_pointer_width = "32")]
+use crate::width::Index as usize;
 
 /// Entry `i` has the six binary digits of `i` in reversed order.
 pub(crate) const REVERSED_SIX: [u8; 64] = [
-    0, 32, 16, 48, 8, 40, 24, 56, 4, 36, 20, 52, 12, 44, 28, 60, 2, 34, 18, 50, 10, 42, 26, 58, 6,
-    38, 22, 54, 14, 46, 30, 62, 1, 33, 17, 49, 9, 41, 25, 57, 5, 37, 21, 53, 13, 45, 29, 61, 3, 35,
-    19, 51, 11, 43, 27, 59, 7, 39, 23, 55, 15, 47, 31, 63,
+    0, 32, 16, 48, 8, 40, 24, 56, 4, 36, 20, 52, 12, 44, 28, 60, 2, 34, 18, 50, 10, 42, 26, 58, 6, 38, 22, 54, 14, 46,
+    30, 62, 1, 33, 17, 49, 9, 41, 25, 57, 5, 37, 21, 53, 13, 45, 29, 61, 3, 35, 19, 51, 11, 43, 27, 59, 7, 39, 23, 55,
+    15, 47, 31, 63,
 ];
 
 /// Reverses the `digits` binary digits of `x`. Up to six digits are read from the table. If there

@@ -6,10 +6,10 @@
 //! edge*, and the rows below them the *bottom edge*. The *corner* lies both below and to the right.
 //! These three are copied plainly: column after column, with one put for each item.
 
-#[cfg(target_pointer_width = "32")]
-use crate::width::Index as usize;
 use crate::kernels::places::{Cells, SliceSource, Source, Writes};
 use crate::kernels::transpose::tile::{TILE_SIDE, Tiles, place_in, put_tile};
+#[cfg(target_pointer_width = "32")]
+use crate::width::Index as usize;
 
 /// A matrix of `height` rows of `width` items. The items are in `source`, row after row.
 #[derive(Clone, Copy)]
@@ -23,22 +23,13 @@ impl<R> Matrix<R> {
     /// The matrix of `height` rows of `width` items that `source` holds.
     #[inline(always)]
     pub(crate) fn new(source: R, width: usize, height: usize) -> Self {
-        Matrix {
-            source,
-            width,
-            height,
-        }
+        Matrix { source, width, height }
     }
 
     /// The region that is the whole matrix.
     #[inline(always)]
     pub(crate) fn whole(&self) -> Region {
-        Region {
-            row_start: 0,
-            row_end: self.height,
-            col_start: 0,
-            col_end: self.width,
-        }
+        Region { row_start: 0, row_end: self.height, col_start: 0, col_end: self.width }
     }
 }
 
@@ -85,21 +76,13 @@ impl Region {
     /// The region with the same columns and with the rows `start..end` of the matrix.
     #[inline(always)]
     pub(crate) fn with_rows(self, start: usize, end: usize) -> Region {
-        Region {
-            row_start: start,
-            row_end: end,
-            ..self
-        }
+        Region { row_start: start, row_end: end, ..self }
     }
 
     /// The region with the same rows and with the columns `start..end` of the matrix.
     #[inline(always)]
     pub(crate) fn with_cols(self, start: usize, end: usize) -> Region {
-        Region {
-            col_start: start,
-            col_end: end,
-            ..self
-        }
+        Region { col_start: start, col_end: end, ..self }
     }
 
     /// Cuts the region above row `middle` of the matrix. Returns the upper part, which ends before
@@ -146,12 +129,7 @@ pub fn transpose_region_on<C: Cells>(
     height: usize,
 ) {
     let source = SliceSource::new(input);
-    put_region(
-        Matrix::new(source, width, height),
-        out,
-        region,
-        Tiles::Direct,
-    );
+    put_region(Matrix::new(source, width, height), out, region, Tiles::Direct);
 }
 
 /// Puts a region: its whole tiles, and then the right edge, the bottom edge and the corner.

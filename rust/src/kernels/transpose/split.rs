@@ -3,11 +3,11 @@
 //!
 //! A *leaf* is a part that is small or narrow. It is put as a region of buffered tiles.
 
-#[cfg(target_pointer_width = "32")]
-use crate::width::Index as usize;
 use crate::kernels::places::{Cells, SliceSource, Source, Writes, len_fits};
 use crate::kernels::transpose::region::{Matrix, Region, put_region};
 use crate::kernels::transpose::tile::Tiles;
+#[cfg(target_pointer_width = "32")]
+use crate::width::Index as usize;
 
 /// A part is a leaf if neither of its sides is greater than this.
 const LEAF_SIDE: usize = 128;
@@ -58,12 +58,7 @@ where
 {
     len_fits(input.len());
     if is_leaf(region) {
-        put_region(
-            Matrix::new(input, width, height),
-            out,
-            region,
-            Tiles::Buffered,
-        );
+        put_region(Matrix::new(input, width, height), out, region, Tiles::Buffered);
         return 0;
     }
     let (first, second) = cut_in_half(region);

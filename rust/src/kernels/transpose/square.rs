@@ -6,10 +6,10 @@
 //! swapped with the lower left one across the diagonal, and at last the lower right one is
 //! transposed. Blocks that are swapped across the diagonal are halved until they are small.
 
-#[cfg(target_pointer_width = "32")]
-use crate::width::Index as usize;
 use crate::kernels::bits::pow2;
 use crate::kernels::places::{Places, Swaps};
+#[cfg(target_pointer_width = "32")]
+use crate::width::Index as usize;
 
 /// A square of at most this many rows and columns is not cut.
 const SMALL_SIDE: usize = 8;
@@ -45,21 +45,10 @@ pub const fn fits_square(len: usize, base: usize, log_stride: usize, log_size: u
 /// `log_size` must be at most `log_stride`, so that no row reaches into the next one, and
 /// `log_stride` must be below 64. The list must hold the last place of the square,
 /// `base + (s - 1) * 2^log_stride + s - 1`. [`fits_square`] checks all of this.
-pub fn transpose_square_on<S: Places>(
-    m: &mut Swaps<S>,
-    base: usize,
-    log_stride: usize,
-    log_size: usize,
-) {
+pub fn transpose_square_on<S: Places>(m: &mut Swaps<S>, base: usize, log_stride: usize, log_size: usize) {
     let _len = m.len();
-    let square = Square {
-        base,
-        stride: pow2(log_stride),
-    };
-    let lines = Lines {
-        start: 0,
-        end: pow2(log_size),
-    };
+    let square = Square { base, stride: pow2(log_stride) };
+    let lines = Lines { start: 0, end: pow2(log_size) };
     transpose_square(m, square, lines);
 }
 
@@ -93,16 +82,7 @@ impl Lines {
     /// The first half, rounded down, and the rest.
     fn halves(self) -> (Lines, Lines) {
         let middle = self.start + (self.end - self.start) / 2;
-        (
-            Lines {
-                start: self.start,
-                end: middle,
-            },
-            Lines {
-                start: middle,
-                end: self.end,
-            },
-        )
+        (Lines { start: self.start, end: middle }, Lines { start: middle, end: self.end })
     }
 }
 
@@ -121,10 +101,7 @@ fn transpose_square<S: Places>(m: &mut Swaps<S>, square: Square, lines: Lines) {
 /// Does the same as [`transpose_square`], row by row.
 fn transpose_small<S: Places>(m: &mut Swaps<S>, square: Square, lines: Lines) {
     for line in lines.start..lines.end {
-        let before = Lines {
-            start: lines.start,
-            end: line,
-        };
+        let before = Lines { start: lines.start, end: line };
         swap_line(m, square, before, line);
     }
 }

@@ -5,11 +5,11 @@
 //! A *direct* tile puts each block straight into the output. A *buffered* tile collects its blocks
 //! in an array of 256 items, and then puts the 16 runs of 16 items that this array has.
 
-#[cfg(target_pointer_width = "32")]
-use crate::width::Index as usize;
 use crate::kernels::places::{Cells, SliceCells, Source, Writes, len_fits};
 use crate::kernels::transpose::butterfly::butterfly_4x4;
 use crate::kernels::transpose::region::{Matrix, Region, put_plain};
+#[cfg(target_pointer_width = "32")]
+use crate::width::Index as usize;
 use core::mem::size_of_val;
 
 /// The number of rows and of columns of a tile.
@@ -30,12 +30,7 @@ where
     C: Cells,
     R: Source<Item = C::Item> + Copy,
 {
-    let place = place_in(
-        matrix.source.len(),
-        tile.row_start,
-        tile.col_start,
-        matrix.width,
-    );
+    let place = place_in(matrix.source.len(), tile.row_start, tile.col_start, matrix.width);
     let first = matrix.source.at(place);
     if !fits_tile(&first) {
         put_plain(matrix, out, tile);
@@ -131,12 +126,7 @@ fn read_block<R: Source + Copy>(matrix: Matrix<R>, row: usize, col: usize) -> [[
 /// The four items of row `row` that begin at column `col`, in rows of `width` items.
 fn four_items<R: Source>(input: &R, row: usize, col: usize, width: usize) -> [R::Item; 4] {
     let at = place_in(input.len(), row, col, width);
-    [
-        input.at(at),
-        input.at(at + 1),
-        input.at(at + 2),
-        input.at(at + 3),
-    ]
+    [input.at(at), input.at(at + 1), input.at(at + 2), input.at(at + 3)]
 }
 
 /// Row `r` of a block. This is a function of its own, so that a proof can name the row.
@@ -160,12 +150,7 @@ where
     R: Source<Item = C::Item> + Copy,
 {
     for k in 0..TILE_SIDE {
-        let to = place_in(
-            cells.len(),
-            tile.col_start + k,
-            tile.row_start,
-            matrix.height,
-        );
+        let to = place_in(cells.len(), tile.col_start + k, tile.row_start, matrix.height);
         put_run(cells, to, buffer, k * TILE_SIDE, TILE_SIDE);
     }
 }
@@ -173,10 +158,7 @@ where
 /// The items of the tile that begins at row `row` and column `col`, column after column.
 fn read_tile<R: Source + Copy>(matrix: Matrix<R>, row: usize, col: usize) -> [R::Item; 256] {
     let from = place_in(matrix.source.len(), row, col, matrix.width);
-    let rest = Rest {
-        source: &matrix.source,
-        from,
-    };
+    let rest = Rest { source: &matrix.source, from };
     collect_tile(&rest, matrix.width)
 }
 
@@ -209,12 +191,7 @@ fn collect_tile<R: Source>(input: &R, width: usize) -> [R::Item; 256] {
 
 /// Puts the items of that tile into a buffer.
 fn fill_tile<R: Source>(input: &R, buffer: &mut [R::Item], width: usize) {
-    let tile = Region {
-        row_start: 0,
-        row_end: TILE_SIDE,
-        col_start: 0,
-        col_end: TILE_SIDE,
-    };
+    let tile = Region { row_start: 0, row_end: TILE_SIDE, col_start: 0, col_end: TILE_SIDE };
     let rows = Matrix::new(input, width, TILE_SIDE);
     put_rows_of_blocks(rows, &mut SliceCells::new(buffer), tile);
 }

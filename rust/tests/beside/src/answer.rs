@@ -18,8 +18,7 @@ pub fn caught<R>(call: impl FnOnce() -> R) -> Result<R, String> {
     set_hook(hook);
     result.map_err(|payload| {
         let text = payload.downcast_ref::<&str>().map(|text| text.to_string());
-        text.or_else(|| payload.downcast_ref::<String>().cloned())
-            .unwrap_or_default()
+        text.or_else(|| payload.downcast_ref::<String>().cloned()).unwrap_or_default()
     })
 }
 
@@ -70,10 +69,7 @@ impl Compared {
         let bytes = start + item * size..package.len().min(start + (item + 1) * size);
         format!(
             "  item {item}, or what follows the list:\n{}",
-            both(
-                &format!("{:x?}", &package[bytes.clone()]),
-                &format!("{:x?}", &original[bytes])
-            )
+            both(&format!("{:x?}", &package[bytes.clone()]), &format!("{:x?}", &original[bytes]))
         )
     }
 }

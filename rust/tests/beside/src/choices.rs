@@ -8,9 +8,7 @@ pub struct Choices {
 impl Choices {
     /// Random choices, always the same for an input with this number.
     pub fn new(seed: u64, input: u64) -> Self {
-        Choices {
-            random: Random::new(Random::new(seed).next() ^ input),
-        }
+        Choices { random: Random::new(Random::new(seed).next() ^ input) }
     }
 
     /// Any number below `end`.

@@ -18,11 +18,7 @@ pub enum By {
 impl By {
     /// The package, in parts or not.
     pub fn chosen(choices: &mut Choices) -> Self {
-        if choices.once_in(4) {
-            By::Parts(choices.up_to(64))
-        } else {
-            By::Package
-        }
+        if choices.once_in(4) { By::Parts(choices.up_to(64)) } else { By::Package }
     }
 
     /// The original's call, or the package's as it was chosen.
@@ -140,10 +136,7 @@ fn transpose<T: AnyBytes>(by: By, input: &[u8], output: &mut [u8], width: usize,
     match by {
         By::Original => p3_util::transpose::transpose(input, output, width, height),
         By::Package => p3_util_proved::transpose::transpose(input, output, width, height),
-        By::Parts(parts) => last_first(
-            parts::transpose(input, output, width, height, parts),
-            TransposePart::run,
-        ),
+        By::Parts(parts) => last_first(parts::transpose(input, output, width, height, parts), TransposePart::run),
     }
 }
 

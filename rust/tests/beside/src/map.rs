@@ -73,16 +73,8 @@ macro_rules! answer_of {
             });
         }
         said.push(format!("{map:?} {:?}", map.iter().collect::<Vec<_>>()));
-        said.push(format!(
-            "{:?} {:?}",
-            map.keys().collect::<Vec<_>>(),
-            map.values().collect::<Vec<_>>()
-        ));
-        said.push(format!(
-            "{:?} {:?}",
-            (&map).into_iter().len(),
-            map.into_iter().rev().collect::<Vec<_>>()
-        ));
+        said.push(format!("{:?} {:?}", map.keys().collect::<Vec<_>>(), map.values().collect::<Vec<_>>()));
+        said.push(format!("{:?} {:?}", (&map).into_iter().len(), map.into_iter().rev().collect::<Vec<_>>()));
         said.join("\n")
     }};
 }
@@ -117,10 +109,7 @@ pub fn map(choices: &mut Choices) -> Compared {
 
 fn call(choices: &mut Choices) -> Call {
     let call = choices.below(5);
-    let key = Key {
-        letter: choices.below(12) as u8,
-        spelling: choices.below(3) as u8,
-    };
+    let key = Key { letter: choices.below(12) as u8, spelling: choices.below(3) as u8 };
     let value = choices.below(256) as u8;
     match call {
         0 => Call::Insert(key, value),

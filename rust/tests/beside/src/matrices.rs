@@ -17,11 +17,7 @@ fn most_bytes(choices: &mut Choices) -> usize {
 
 /// A power of two up to `most`, or now and then another number.
 fn reversible(choices: &mut Choices, most: usize) -> usize {
-    if choices.once_in(16) {
-        choices.up_to(most)
-    } else {
-        1 << choices.below(most.max(1).ilog2() as usize + 1)
-    }
+    if choices.once_in(16) { choices.up_to(most) } else { 1 << choices.below(most.max(1).ilog2() as usize + 1) }
 }
 
 pub fn reversal(choices: &mut Choices) -> Compared {
@@ -31,11 +27,7 @@ pub fn reversal(choices: &mut Choices) -> Compared {
     let list = List::chosen(choices, item, count);
     let by = By::chosen(choices);
     Compared {
-        call: format!(
-            "reverse_slice_index_bits of {count} items {}, at offset {}{by}",
-            item.name,
-            list.offset()
-        ),
+        call: format!("reverse_slice_index_bits of {count} items {}, at offset {}{by}", item.name, list.offset()),
         list: list.place(),
         answer: Box::new(move |side| list.after(|bytes| (item.reverse)(by.on(side), bytes))),
     }
@@ -72,11 +64,7 @@ pub fn transpose(choices: &mut Choices) -> Compared {
     let most = most_bytes(choices) / item.size;
     let (width, height) = sides(choices, most);
     let [input, output] = [(); 2].map(|()| {
-        let count = if choices.once_in(32) {
-            choices.up_to(most)
-        } else {
-            width * height
-        };
+        let count = if choices.once_in(32) { choices.up_to(most) } else { width * height };
         List::chosen(choices, item, count)
     });
     let by = By::chosen(choices);

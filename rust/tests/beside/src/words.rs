@@ -17,14 +17,10 @@ macro_rules! calls_of {
             ("log2_strict_usize", |x, _| text($library::log2_strict_usize(x))),
             ("log3_strict_usize", |x, _| text($library::log3_strict_usize(x))),
             ("checked_pow2", |x, _| text($library::checked_pow2(x))),
-            ("checked_log_size_sum", |x, y| {
-                text($library::checked_log_size_sum(x, y))
-            }),
+            ("checked_log_size_sum", |x, y| text($library::checked_log_size_sum(x, y))),
             ("reverse_bits", |x, y| text($library::reverse_bits(x, y))),
             ("reverse_bits_len", |x, y| text($library::reverse_bits_len(x, y))),
-            ("indices_arr", |_, _| {
-                text(($library::indices_arr::<0>(), $library::indices_arr::<9>()))
-            }),
+            ("indices_arr", |_, _| text(($library::indices_arr::<0>(), $library::indices_arr::<9>()))),
             ("pretty_name", |x, _| match x % 4 {
                 0 => $library::pretty_name::<Vec<Option<(u8, String)>>>(),
                 1 => $library::pretty_name::<&Choices>(),
