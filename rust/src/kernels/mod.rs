@@ -2,31 +2,32 @@
 #![warn(clippy::default_numeric_fallback)]
 
 pub mod bits;
+pub mod places;
+pub mod reverse;
+pub mod transpose;
+
 pub(crate) mod bulk;
+pub(crate) mod grid;
+#[cfg(target_pointer_width = "64")]
+pub(crate) mod registers;
+pub(crate) mod rows;
+pub(crate) mod strips;
+pub(crate) mod ways;
+
 #[cfg(target_pointer_width = "64")]
 pub(crate) mod bytes;
 pub(crate) mod calls;
 pub(crate) mod choice;
-pub(crate) mod grid;
 pub(crate) mod lines;
 #[cfg(target_pointer_width = "64")]
 pub(crate) mod part;
 #[cfg(target_pointer_width = "64")]
 pub(crate) mod parts;
-pub mod places;
-#[cfg(target_pointer_width = "64")]
-pub(crate) mod registers;
-pub mod reverse;
-pub(crate) mod rows;
-pub(crate) mod strips;
-pub mod transpose;
-pub(crate) mod ways;
 
 pub mod chunks;
 pub mod linear_map;
 mod no_room;
 pub mod zip_eq;
-
 pub use no_room::NoRoom;
 
 /// The type of a place, of a length and of a number of digits: `usize`, and `u64` on a system of 32 bits.
