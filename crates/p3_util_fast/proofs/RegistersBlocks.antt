@@ -34,17 +34,17 @@ module _ (side : ℕ) (block : Block) (col input_len len : ℕ) (is : IsSide sid
   is_top : (c : ℕ) → c < block.rows → slice_index (replicate 8 col) c ≡ col
   is_top c h = get_or-replicate 8 c col 0 (in_all c h)
 
-  module _ (to : List ℕ) (at : (c : ℕ) → c < 8 → slice_index to c ≡ slice_index cols (col + c % side) + (c - c % side)) where
+  module _ (to : List ℕ) (at : (c : ℕ) → c < 8 → slice_index to c ≡ slice_index cols (slice_index (replicate 8 col) c + c % side) + (c - c % side)) where
     at_row : (c : ℕ) → c < block.rows → slice_index to c ≡ slice_index cols (slice_index (replicate 8 col) c + c % side) + (c - c % side)
-    at_row c h = rw (is_top c h) (at c (in_all c h))
+    at_row c h = at c (in_all c h)
 
     pub AreDisjoint-block_to : AreDisjoint block.rows side to
     AreDisjoint-block_to = AreDisjoint-rows block.rows side known is (omega arith) (λ s. col) cols (replicate 8 col) to (λ c h. below) is_top at_row apart
 
-    pub ColumnsPut-step : {A : Type 0} (from : List ℕ) (columns : List (List A)) (input old new : List A) → ((c : ℕ) → c < 8 → slice_index from c ≡ slice_index rows c + col)
+    pub ColumnsPut-step : {A : Type 0} (from : List ℕ) (columns : List (List A)) (input old new : List A) → ((c : ℕ) → c < 8 → slice_index from c ≡ slice_index rows c + slice_index (replicate 8 col) c)
         → AreColumns side from input columns → AreStored block.rows side to columns old new → ColumnsPut col (col + side) block input old new
     ColumnsPut-step from columns input old new at_from of stored =
-        let moved = SquaresMoved-rows block.rows side known is (omega arith) (λ s. col) cols (replicate 8 col) to (λ c h. below) is_top at_row rows from columns input old new (λ c h. rw (is_top c h) (at_from c (in_all c h))) of stored in
+        let moved = SquaresMoved-rows block.rows side known is (omega arith) (λ s. col) cols (replicate 8 col) to (λ c h. below) is_top at_row rows from columns input old new (λ c h. at_from c (in_all c h)) of stored in
         let from_is : (r : ℕ) → r < block.rows → slice_index rows r ≡ block.from + r * block.width = λ r h. rw ((row_in_block block.rows r known).1 h) at (at_rows r (in_all r h)) in
         record {
           same_length = moved.same_length;

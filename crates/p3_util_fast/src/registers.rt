@@ -21,9 +21,6 @@
 //! A stage here rotates the bits of an item's index by one, while a stage of
 //! [`butterfly_4x4`](p3_util_kernels::transpose::butterfly_4x4) exchanges one bit of the row number with the same
 //! bit of the column number: after two stages of either, the two numbers are exchanged.
-//!
-//! [`exchange_tiles`] and [`turn_tile`] leave the list that the methods of these names of `Tiled` leave, and
-//! [`put_by_squares`] leaves that of `Blocked::put_block`. A holder's own methods may call them.
 
 ghost use Rattle.std.specs.Prelude.{◌≡◌, ℕ, ◌+◌, ◌-◌, ◌*◌, ◌/◌, ◌%◌, ◌^◌, ◌<◌, ◌≤◌, ◌⊎◌, List, [], ◌∷◌, ◌++◌, length, refl, slice_get, slice_index};
 ghost use Rattle.std.proofs.Common.{arith, length-append};
@@ -31,11 +28,26 @@ ghost use Rattle.p3_util_fast.specs.BlockPut.{BlockFits, IsBlockPut, block_items
 ghost use Rattle.p3_util_fast.specs.Registers.{AreDisjoint, AreColumns, AreInterleaved, AreLoaded, AreReached, AreStored, ColumnsPut, IsNextStage, IsSide, IsRunStored, IsStored, RowsExchanged, RowsReached, SquaresTurned, items_of_four};
 ghost use Rattle.p3_util_fast.specs.Tiles.{AreTiles, IsTile, TileTurned, TilesExchanged};
 
+/// What a function returns for 0 to 7 as its last argument. With a loop, the compiler would move registers back and forth in the
+/// loop over the blocks.
+macro_rules! eight {
+    ($value:ident($($given:expr),*)) => {
+        [
+            $value($($given,)* 0),
+            $value($($given,)* 1),
+            $value($($given,)* 2),
+            $value($($given,)* 3),
+            $value($($given,)* 4),
+            $value($($given,)* 5),
+            $value($($given,)* 6),
+            $value($($given,)* 7),
+        ]
+    };
+}
+
 pub(crate) mod blocks;
 pub(crate) mod line_blocks;
 pub(crate) mod tiles;
-
-use crate::bulk::Block;
 
 /// Some items, one after another, as many for each register of a type.
 pub(crate) trait Register<T>: Copy {
@@ -273,20 +285,20 @@ fn in_columns(x: [usize; 8], tops: [usize; 8]) -> [usize; 8]
 }
 
 /// The first place of row `c` of some squares side by side, if the first row of its square is row
-/// `top` of a tile.
+/// `tops[c]` of a tile.
 #[inline(always)]
-fn row_of_squares(x: [usize; 8], side: usize, top: usize, c: usize) -> usize
+fn row_of_squares(x: [usize; 8], side: usize, tops: [usize; 8], c: usize) -> usize
     requires some_side { IsSide side }
-    requires below { top + side ≤ 8 }
+    requires below { (c : ℕ) → c < 8 → slice_index tops c + side ≤ 8 }
     requires in_tile { c < 8 }
     requires fit { (j : ℕ) → j < 8 → slice_index x j + 8 < 2 ^ 64 }
-    ensures { result ≡ slice_index x (top + c % side) + (c - c % side) }
+    ensures { result ≡ slice_index x (slice_index tops c + c % side) + (c - c % side) }
 {
-    x[top + c % side] + (c - c % side)
+    x[tops[c] + c % side] + (c - c % side)
 }
 
-/// For each row `c` of some squares side by side, its first place, if the first row of its square is
-/// row `tops[c]` of a tile.
+/// The first place of each row of some squares side by side, if the first row of the square of row `c`
+/// is row `tops[c]` of a tile.
 #[inline(always)]
 fn in_rows(x: [usize; 8], side: usize, tops: [usize; 8]) -> [usize; 8]
     requires some_side { IsSide side }
@@ -294,249 +306,7 @@ fn in_rows(x: [usize; 8], side: usize, tops: [usize; 8]) -> [usize; 8]
     requires fit { (j : ℕ) → j < 8 → slice_index x j + 8 < 2 ^ 64 }
     ensures { (c : ℕ) → c < 8 → slice_index result c ≡ slice_index x (slice_index tops c + c % side) + (c - c % side) }
 {
-    // With a loop here, the compiler would move registers back and forth in the loop over the blocks.
-    [
-        row_of_squares(x, side, tops[0], 0),
-        row_of_squares(x, side, tops[1], 1),
-        row_of_squares(x, side, tops[2], 2),
-        row_of_squares(x, side, tops[3], 3),
-        row_of_squares(x, side, tops[4], 4),
-        row_of_squares(x, side, tops[5], 5),
-        row_of_squares(x, side, tops[6], 6),
-        row_of_squares(x, side, tops[7], 7),
-    ]
-}
-
-/// The same as [`in_columns`], for the same column in each row.
-#[inline(always)]
-fn in_column(x: [usize; 8], top: usize) -> [usize; 8]
-    requires below { top < 8 }
-    requires fit { (j : ℕ) → j < 8 → slice_index x j + 8 < 2 ^ 64 }
-    ensures { (c : ℕ) → c < 8 → slice_index result c ≡ slice_index x c + top }
-{
-    in_columns(x, [top; 8])
-}
-
-/// The same as [`in_rows`], for squares side by side that begin in the same row of a tile.
-#[inline(always)]
-fn in_band(x: [usize; 8], side: usize, top: usize) -> [usize; 8]
-    requires some_side { IsSide side }
-    requires below { top + side ≤ 8 }
-    requires fit { (j : ℕ) → j < 8 → slice_index x j + 8 < 2 ^ 64 }
-    ensures { (c : ℕ) → c < 8 → slice_index result c ≡ slice_index x (top + c % side) + (c - c % side) }
-{
-    in_rows(x, side, [top; 8])
-}
-
-/// Exchanges `D::SIDE` rows of a tile, from row `row` on, with as many columns of the other.
-#[inline(always)]
-fn exchange_band<T, D: Register<T>, M: Runs<T, D>>(
-    list: &mut M,
-    x: [usize; 8],
-    y: [usize; 8],
-    row: usize,
-)
-    requires some_side { IsSide D.SIDE }
-    requires below { row + D.SIDE ≤ 8 }
-    requires tiles { AreTiles x y (length (M.items list.old)) }
-    requires reached_x { RowsReached 8 D.SIDE (slice_index x) (M.may (M.reach list.old)) }
-    requires reached_y { RowsReached 8 D.SIDE (slice_index y) (M.may (M.reach list.old)) }
-    requires len_fits { length (M.items list.old) < 2 ^ 63 }
-    ensures exchanged { RowsExchanged row (row + D.SIDE) x y (M.items list.old) (M.items list.new) }
-    ensures reach { M.reach list.new ≡ M.reach list.old }
-    ensures holder { M.same_holder (16 * D.SIDE) list.old list.new }
-{
-    let in_x = in_band(x, D::SIDE, row);
-    let in_y = in_column(y, row);
-    let to_y = load_columns(list, in_x);
-    let to_x = load_columns(list, in_y);
-    store(list, 8, in_y, to_y);
-    store(list, 8, in_x, to_x);
-}
-
-/// Does what `Tiled::exchange_tiles` does, by squares of `D::SIDE` rows.
-#[inline(always)]
-pub(crate) fn exchange_tiles<T, D: Register<T>, M: Runs<T, D>>(
-    list: &mut M,
-    x: [usize; 8],
-    y: [usize; 8],
-)
-    requires some_side { IsSide D.SIDE }
-    requires tiles { AreTiles x y (length (M.items list.old)) }
-    requires reached_x { RowsReached 8 D.SIDE (slice_index x) (M.may (M.reach list.old)) }
-    requires reached_y { RowsReached 8 D.SIDE (slice_index y) (M.may (M.reach list.old)) }
-    ensures exchanged { TilesExchanged 64 x y (M.items list.old) (M.items list.new) }
-    ensures reach { M.reach list.new ≡ M.reach list.old }
-    ensures holder { M.same_holder 128 list.old list.new }
-{
-    match D::SIDE {
-        2 => {
-            exchange_band(list, x, y, 0);
-            exchange_band(list, x, y, 2);
-            exchange_band(list, x, y, 4);
-            exchange_band(list, x, y, 6);
-        }
-        4 => {
-            exchange_band(list, x, y, 0);
-            exchange_band(list, x, y, 4);
-        }
-        _ => exchange_band(list, x, y, 0),
-    }
-}
-
-/// The first column of the square whose mirror image is in row `c` of all squares.
-#[inline(always)]
-fn opposite(side: usize, sum: usize, c: usize) -> usize
-    requires some_side { IsSide side }
-    requires sum { sum < 8 }
-    requires below { c < 8 }
-    ensures { result ≡ (8 + sum - (c - c % side)) % 8 }
-{
-    (8 + sum - (c - c % side)) % 8
-}
-
-/// The first column of the square whose mirror image is in row `c` of all squares, for each `c`.
-#[inline(always)]
-fn opposites(side: usize, sum: usize) -> [usize; 8]
-    requires some_side { IsSide side }
-    requires sum { sum < 8 }
-    ensures { (c : ℕ) → c < 8 → slice_index result c ≡ (8 + sum - (c - c % side)) % 8 }
-{
-    [
-        opposite(side, sum, 0),
-        opposite(side, sum, 1),
-        opposite(side, sum, 2),
-        opposite(side, sum, 3),
-        opposite(side, sum, 4),
-        opposite(side, sum, 5),
-        opposite(side, sum, 6),
-        opposite(side, sum, 7),
-    ]
-}
-
-/// Transposes some squares of a tile, each into the place of its mirror image.
-#[inline(always)]
-fn turn_squares<T, D: Register<T>, M: Runs<T, D>>(list: &mut M, x: [usize; 8], sum: usize)
-    requires some_side { IsSide D.SIDE }
-    requires sum { sum < 8 }
-    requires whole { sum % D.SIDE ≡ 0 }
-    requires tile { IsTile x (length (M.items list.old)) }
-    requires reached { RowsReached 8 D.SIDE (slice_index x) (M.may (M.reach list.old)) }
-    requires len_fits { length (M.items list.old) < 2 ^ 63 }
-    ensures turned { SquaresTurned sum (sum + D.SIDE) D.SIDE x (M.items list.old) (M.items list.new) }
-    ensures reach { M.reach list.new ≡ M.reach list.old }
-    ensures holder { M.same_holder (8 * D.SIDE) list.old list.new }
-{
-    let side = D::SIDE;
-    let tops = opposites(side, sum);
-    let columns = load_columns(list, in_columns(x, tops));
-    store(list, 8, in_rows(x, side, tops), columns);
-}
-
-/// Does what `Tiled::turn_tile` does, by squares of `D::SIDE` rows.
-#[inline(always)]
-pub(crate) fn turn_tile<T, D: Register<T>, M: Runs<T, D>>(list: &mut M, x: [usize; 8])
-    requires some_side { IsSide D.SIDE }
-    requires tile { IsTile x (length (M.items list.old)) }
-    requires reached { RowsReached 8 D.SIDE (slice_index x) (M.may (M.reach list.old)) }
-    ensures turned { TileTurned 64 x (M.items list.old) (M.items list.new) }
-    ensures reach { M.reach list.new ≡ M.reach list.old }
-    ensures holder { M.same_holder 64 list.old list.new }
-{
-    match D::SIDE {
-        2 => {
-            turn_squares(list, x, 0);
-            turn_squares(list, x, 2);
-            turn_squares(list, x, 4);
-            turn_squares(list, x, 6);
-        }
-        4 => {
-            turn_squares(list, x, 0);
-            turn_squares(list, x, 4);
-        }
-        _ => turn_squares(list, x, 0),
-    }
-}
-
-/// Where row `c` of `count` rows begins. After the last row come the same rows again.
-#[inline(always)]
-fn start(first: usize, stride: usize, count: usize, c: usize) -> usize
-    requires known { (count ≡ 4) ⊎ (count ≡ 8) }
-    requires fits { (r : ℕ) → r < count → first + r * stride + 8 < 2 ^ 64 }
-    ensures { result ≡ first + c % count * stride }
-{
-    first + c % count * stride
-}
-
-/// Where the rows of a block begin, or those of its transpose.
-#[inline(always)]
-fn starts(first: usize, stride: usize, count: usize) -> [usize; 8]
-    requires known { (count ≡ 4) ⊎ (count ≡ 8) }
-    requires fits { (r : ℕ) → r < count → first + r * stride + 8 < 2 ^ 64 }
-    ensures are { (c : ℕ) → c < 8 → slice_index result c ≡ first + c % count * stride }
-    ensures fit { (c : ℕ) → c < 8 → slice_index result c + 8 < 2 ^ 64 }
-{
-    [
-        start(first, stride, count, 0),
-        start(first, stride, count, 1),
-        start(first, stride, count, 2),
-        start(first, stride, count, 3),
-        start(first, stride, count, 4),
-        start(first, stride, count, 5),
-        start(first, stride, count, 6),
-        start(first, stride, count, 7),
-    ]
-}
-
-/// Puts `D::SIDE` columns of a block, from column `col` on, which are squares one above another. If
-/// the block has 4 rows, the registers have each of its squares twice, and one of both is put.
-#[inline(always)]
-fn put_squares<T, D: Register<T>, S: Loads<T, D>, M: Runs<T, D>>(
-    cells: &mut M,
-    source: &S,
-    block: Block,
-    col: usize,
-)
-    requires some_side { IsSide D.SIDE }
-    requires known { (block.rows ≡ 4) ⊎ (block.rows ≡ 8) }
-    requires below { col + D.SIDE ≤ block.rows }
-    requires square { block.cols ≡ block.rows }
-    requires block { BlockFits block (length (S.items source.now)) (length (M.items cells.old)) }
-    requires reads { RowsReached block.rows D.SIDE (λ r. block.from + r * block.width) (S.may (S.reach source.now)) }
-    requires writes { RowsReached block.rows D.SIDE (λ c. block.to + c * block.height) (M.may (M.reach cells.old)) }
-    requires source_len_fits { length (S.items source.now) < 2 ^ 63 }
-    requires cells_len_fits { length (M.items cells.old) < 2 ^ 63 }
-    ensures put { ColumnsPut col (col + D.SIDE) block (S.items source.now) (M.items cells.old) (M.items cells.new) }
-    ensures reach { M.reach cells.new ≡ M.reach cells.old }
-    ensures holder { M.same_holder (block.rows * D.SIDE) cells.old cells.new }
-{
-    let from = in_column(starts(block.from, block.width, block.rows), col);
-    let to = in_band(starts(block.to, block.height, block.rows), D::SIDE, col);
-    store(cells, block.rows, to, load_columns(source, from));
-}
-
-/// Does what `Blocked::put_block` does, by squares of `D::SIDE` rows.
-#[inline(always)]
-pub(crate) fn put_by_squares<T, D: Register<T>, S: Loads<T, D>, M: Runs<T, D>>(
-    cells: &mut M,
-    source: &S,
-    block: Block,
-)
-    requires some_side { IsSide D.SIDE }
-    requires known { (block.rows ≡ 4) ⊎ (block.rows ≡ 8) }
-    requires square { block.cols ≡ block.rows }
-    requires lines { (block.rows ≡ D.SIDE) ⊎ (block.rows ≡ 2 * D.SIDE) }
-    requires block { BlockFits block (length (S.items source.now)) (length (M.items cells.old)) }
-    requires reads { RowsReached block.rows D.SIDE (λ r. block.from + r * block.width) (S.may (S.reach source.now)) }
-    requires writes { RowsReached block.rows D.SIDE (λ c. block.to + c * block.height) (M.may (M.reach cells.old)) }
-    ensures put { IsBlockPut (block_items block) block (S.items source.now) (M.items cells.old) (M.items cells.new) }
-    ensures reach { M.reach cells.new ≡ M.reach cells.old }
-    ensures holder { M.same_holder (block_items block) cells.old cells.new }
-{
-    put_squares(cells, source, block, 0);
-    if D::SIDE < block.rows {
-        put_squares(cells, source, block, D::SIDE);
-    }
+    eight!(row_of_squares(x, side, tops))
 }
 
 /// What holds one item.

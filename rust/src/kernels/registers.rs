@@ -22,15 +22,27 @@
 //! A stage here rotates the bits of an item's index by one, while a stage of
 //! [`butterfly_4x4`](crate::kernels::transpose::butterfly_4x4) exchanges one bit of the row number with the same
 //! bit of the column number: after two stages of either, the two numbers are exchanged.
-//!
-//! [`exchange_tiles`] and [`turn_tile`] leave the list that the methods of these names of `Tiled` leave, and
-//! [`put_by_squares`] leaves that of `Blocked::put_block`. A holder's own methods may call them.
+
+/// What a function returns for 0 to 7 as its last argument. With a loop, the compiler would move registers back and forth in the
+/// loop over the blocks.
+macro_rules! eight {
+    ($value:ident($($given:expr),*)) => {
+        [
+            $value($($given,)* 0),
+            $value($($given,)* 1),
+            $value($($given,)* 2),
+            $value($($given,)* 3),
+            $value($($given,)* 4),
+            $value($($given,)* 5),
+            $value($($given,)* 6),
+            $value($($given,)* 7),
+        ]
+    };
+}
 
 pub(crate) mod blocks;
 pub(crate) mod line_blocks;
 pub(crate) mod tiles;
-
-use crate::kernels::bulk::Block;
 
 /// Some items, one after another, as many for each register of a type.
 pub(crate) trait Register<T>: Copy {
@@ -170,159 +182,17 @@ fn in_columns(x: [usize; 8], tops: [usize; 8]) -> [usize; 8] {
 }
 
 /// The first place of row `c` of some squares side by side, if the first row of its square is row
-/// `top` of a tile.
+/// `tops[c]` of a tile.
 #[inline(always)]
-fn row_of_squares(x: [usize; 8], side: usize, top: usize, c: usize) -> usize {
-    x[top + c % side] + (c - c % side)
+fn row_of_squares(x: [usize; 8], side: usize, tops: [usize; 8], c: usize) -> usize {
+    x[tops[c] + c % side] + (c - c % side)
 }
 
-/// For each row `c` of some squares side by side, its first place, if the first row of its square is
-/// row `tops[c]` of a tile.
+/// The first place of each row of some squares side by side, if the first row of the square of row `c`
+/// is row `tops[c]` of a tile.
 #[inline(always)]
 fn in_rows(x: [usize; 8], side: usize, tops: [usize; 8]) -> [usize; 8] {
-    // With a loop here, the compiler would move registers back and forth in the loop over the blocks.
-    [
-        row_of_squares(x, side, tops[0], 0),
-        row_of_squares(x, side, tops[1], 1),
-        row_of_squares(x, side, tops[2], 2),
-        row_of_squares(x, side, tops[3], 3),
-        row_of_squares(x, side, tops[4], 4),
-        row_of_squares(x, side, tops[5], 5),
-        row_of_squares(x, side, tops[6], 6),
-        row_of_squares(x, side, tops[7], 7),
-    ]
-}
-
-/// The same as [`in_columns`], for the same column in each row.
-#[inline(always)]
-fn in_column(x: [usize; 8], top: usize) -> [usize; 8] {
-    in_columns(x, [top; 8])
-}
-
-/// The same as [`in_rows`], for squares side by side that begin in the same row of a tile.
-#[inline(always)]
-fn in_band(x: [usize; 8], side: usize, top: usize) -> [usize; 8] {
-    in_rows(x, side, [top; 8])
-}
-
-/// Exchanges `D::SIDE` rows of a tile, from row `row` on, with as many columns of the other.
-#[inline(always)]
-fn exchange_band<T, D: Register<T>, M: Runs<T, D>>(list: &mut M, x: [usize; 8], y: [usize; 8], row: usize) {
-    let in_x = in_band(x, D::SIDE, row);
-    let in_y = in_column(y, row);
-    let to_y = load_columns(list, in_x);
-    let to_x = load_columns(list, in_y);
-    store(list, 8, in_y, to_y);
-    store(list, 8, in_x, to_x);
-}
-
-/// Does what `Tiled::exchange_tiles` does, by squares of `D::SIDE` rows.
-#[inline(always)]
-pub(crate) fn exchange_tiles<T, D: Register<T>, M: Runs<T, D>>(list: &mut M, x: [usize; 8], y: [usize; 8]) {
-    match D::SIDE {
-        2 => {
-            exchange_band(list, x, y, 0);
-            exchange_band(list, x, y, 2);
-            exchange_band(list, x, y, 4);
-            exchange_band(list, x, y, 6);
-        }
-        4 => {
-            exchange_band(list, x, y, 0);
-            exchange_band(list, x, y, 4);
-        }
-        _ => exchange_band(list, x, y, 0),
-    }
-}
-
-/// The first column of the square whose mirror image is in row `c` of all squares.
-#[inline(always)]
-fn opposite(side: usize, sum: usize, c: usize) -> usize {
-    (8 + sum - (c - c % side)) % 8
-}
-
-/// The first column of the square whose mirror image is in row `c` of all squares, for each `c`.
-#[inline(always)]
-fn opposites(side: usize, sum: usize) -> [usize; 8] {
-    [
-        opposite(side, sum, 0),
-        opposite(side, sum, 1),
-        opposite(side, sum, 2),
-        opposite(side, sum, 3),
-        opposite(side, sum, 4),
-        opposite(side, sum, 5),
-        opposite(side, sum, 6),
-        opposite(side, sum, 7),
-    ]
-}
-
-/// Transposes some squares of a tile, each into the place of its mirror image.
-#[inline(always)]
-fn turn_squares<T, D: Register<T>, M: Runs<T, D>>(list: &mut M, x: [usize; 8], sum: usize) {
-    let side = D::SIDE;
-    let tops = opposites(side, sum);
-    let columns = load_columns(list, in_columns(x, tops));
-    store(list, 8, in_rows(x, side, tops), columns);
-}
-
-/// Does what `Tiled::turn_tile` does, by squares of `D::SIDE` rows.
-#[inline(always)]
-pub(crate) fn turn_tile<T, D: Register<T>, M: Runs<T, D>>(list: &mut M, x: [usize; 8]) {
-    match D::SIDE {
-        2 => {
-            turn_squares(list, x, 0);
-            turn_squares(list, x, 2);
-            turn_squares(list, x, 4);
-            turn_squares(list, x, 6);
-        }
-        4 => {
-            turn_squares(list, x, 0);
-            turn_squares(list, x, 4);
-        }
-        _ => turn_squares(list, x, 0),
-    }
-}
-
-/// Where row `c` of `count` rows begins. After the last row come the same rows again.
-#[inline(always)]
-fn start(first: usize, stride: usize, count: usize, c: usize) -> usize {
-    first + c % count * stride
-}
-
-/// Where the rows of a block begin, or those of its transpose.
-#[inline(always)]
-fn starts(first: usize, stride: usize, count: usize) -> [usize; 8] {
-    [
-        start(first, stride, count, 0),
-        start(first, stride, count, 1),
-        start(first, stride, count, 2),
-        start(first, stride, count, 3),
-        start(first, stride, count, 4),
-        start(first, stride, count, 5),
-        start(first, stride, count, 6),
-        start(first, stride, count, 7),
-    ]
-}
-
-/// Puts `D::SIDE` columns of a block, from column `col` on, which are squares one above another. If
-/// the block has 4 rows, the registers have each of its squares twice, and one of both is put.
-#[inline(always)]
-fn put_squares<T, D: Register<T>, S: Loads<T, D>, M: Runs<T, D>>(cells: &mut M, source: &S, block: Block, col: usize) {
-    let from = in_column(starts(block.from, block.width, block.rows), col);
-    let to = in_band(starts(block.to, block.height, block.rows), D::SIDE, col);
-    store(cells, block.rows, to, load_columns(source, from));
-}
-
-/// Does what `Blocked::put_block` does, by squares of `D::SIDE` rows.
-#[inline(always)]
-pub(crate) fn put_by_squares<T, D: Register<T>, S: Loads<T, D>, M: Runs<T, D>>(
-    cells: &mut M,
-    source: &S,
-    block: Block,
-) {
-    put_squares(cells, source, block, 0);
-    if D::SIDE < block.rows {
-        put_squares(cells, source, block, D::SIDE);
-    }
+    eight!(row_of_squares(x, side, tops))
 }
 
 /// What holds one item.

@@ -1,13 +1,13 @@
 //! How a holder puts a block: by whole cache lines, by squares, or item by item.
 
-ghost use Rattle.std.specs.Prelude.{◌≡◌, ℕ, ◌+◌, ◌*◌, ◌^◌, ◌<◌, ◌≤◌, ◌⊎◌, IsTrue, length};
+ghost use Rattle.std.specs.Prelude.{◌≡◌, ℕ, ◌+◌, ◌*◌, ◌%◌, ◌^◌, ◌<◌, ◌≤◌, ◌⊎◌, IsTrue, length, slice_index};
 ghost use Rattle.p3_util_fast.specs.BlockPut.{BlockFits, IsBlockPut, block_items};
 ghost use Rattle.p3_util_fast.specs.RegisterLines.{LinesReached};
-ghost use Rattle.p3_util_fast.specs.Registers.{IsSide};
+ghost use Rattle.p3_util_fast.specs.Registers.{ColumnsPut, IsSide, RowsReached};
 
 use crate::bulk::{Ahead, Block, Blocked};
 use crate::registers::line_blocks::put_by_lines;
-use crate::registers::{Loads, Register, Runs, put_by_squares};
+use crate::registers::{Loads, Register, Runs, in_columns, in_rows, load_columns, store};
 use p3_util_kernels::places::Cells;
 
 /// Cells into which runs are put, too.
@@ -125,4 +125,80 @@ fn is_square(side: usize, square: usize, block: Block) -> bool
         && block.rows == square
         && (square == 4 || square == 8)
         && (side == square || side == square / 2)
+}
+
+/// Where row `c` of `count` rows begins. After the last row come the same rows again.
+#[inline(always)]
+fn start(first: usize, stride: usize, count: usize, c: usize) -> usize
+    requires known { (count ≡ 4) ⊎ (count ≡ 8) }
+    requires fits { (r : ℕ) → r < count → first + r * stride + 8 < 2 ^ 64 }
+    ensures { result ≡ first + c % count * stride }
+{
+    first + c % count * stride
+}
+
+/// Where the rows of a block begin, or those of its transpose.
+#[inline(always)]
+pub(super) fn starts(first: usize, stride: usize, count: usize) -> [usize; 8]
+    requires known { (count ≡ 4) ⊎ (count ≡ 8) }
+    requires fits { (r : ℕ) → r < count → first + r * stride + 8 < 2 ^ 64 }
+    ensures are { (c : ℕ) → c < 8 → slice_index result c ≡ first + c % count * stride }
+    ensures fit { (c : ℕ) → c < 8 → slice_index result c + 8 < 2 ^ 64 }
+{
+    eight!(start(first, stride, count))
+}
+
+/// Puts `D::SIDE` columns of a block, from column `col` on, which are squares one above another. If
+/// the block has 4 rows, the registers have each of its squares twice, and one of both is put.
+#[inline(always)]
+fn put_squares<T, D: Register<T>, S: Loads<T, D>, M: Runs<T, D>>(
+    cells: &mut M,
+    source: &S,
+    block: Block,
+    col: usize,
+)
+    requires some_side { IsSide D.SIDE }
+    requires known { (block.rows ≡ 4) ⊎ (block.rows ≡ 8) }
+    requires below { col + D.SIDE ≤ block.rows }
+    requires square { block.cols ≡ block.rows }
+    requires block { BlockFits block (length (S.items source.now)) (length (M.items cells.old)) }
+    requires reads { RowsReached block.rows D.SIDE (λ r. block.from + r * block.width) (S.may (S.reach source.now)) }
+    requires writes { RowsReached block.rows D.SIDE (λ c. block.to + c * block.height) (M.may (M.reach cells.old)) }
+    requires source_len_fits { length (S.items source.now) < 2 ^ 63 }
+    requires cells_len_fits { length (M.items cells.old) < 2 ^ 63 }
+    ensures put { ColumnsPut col (col + D.SIDE) block (S.items source.now) (M.items cells.old) (M.items cells.new) }
+    ensures reach { M.reach cells.new ≡ M.reach cells.old }
+    ensures holder { M.same_holder (block.rows * D.SIDE) cells.old cells.new }
+{
+    let from = in_columns(starts(block.from, block.width, block.rows), [col; 8]);
+    let to = in_rows(
+        starts(block.to, block.height, block.rows),
+        D::SIDE,
+        [col; 8],
+    );
+    store(cells, block.rows, to, load_columns(source, from));
+}
+
+/// Does what `Blocked::put_block` does, by squares of `D::SIDE` rows.
+#[inline(always)]
+fn put_by_squares<T, D: Register<T>, S: Loads<T, D>, M: Runs<T, D>>(
+    cells: &mut M,
+    source: &S,
+    block: Block,
+)
+    requires some_side { IsSide D.SIDE }
+    requires known { (block.rows ≡ 4) ⊎ (block.rows ≡ 8) }
+    requires square { block.cols ≡ block.rows }
+    requires lines { (block.rows ≡ D.SIDE) ⊎ (block.rows ≡ 2 * D.SIDE) }
+    requires block { BlockFits block (length (S.items source.now)) (length (M.items cells.old)) }
+    requires reads { RowsReached block.rows D.SIDE (λ r. block.from + r * block.width) (S.may (S.reach source.now)) }
+    requires writes { RowsReached block.rows D.SIDE (λ c. block.to + c * block.height) (M.may (M.reach cells.old)) }
+    ensures put { IsBlockPut (block_items block) block (S.items source.now) (M.items cells.old) (M.items cells.new) }
+    ensures reach { M.reach cells.new ≡ M.reach cells.old }
+    ensures holder { M.same_holder (block_items block) cells.old cells.new }
+{
+    put_squares(cells, source, block, 0);
+    if D::SIDE < block.rows {
+        put_squares(cells, source, block, D::SIDE);
+    }
 }

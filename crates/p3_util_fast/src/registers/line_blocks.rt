@@ -7,7 +7,8 @@ ghost use Rattle.p3_util_fast.specs.Registers.{ColumnsPut, IsRunStored, IsStored
 ghost use Rattle.p3_util_fast.specs.RegisterLines.{AreLines, ColumnsReached, LinesReached};
 
 use crate::bulk::Block;
-use crate::registers::{Four, Loads, Register, Runs, load, load_two, next_stage, starts};
+use crate::registers::blocks::starts;
+use crate::registers::{Four, Loads, Register, Runs, load, load_two, next_stage};
 
 /// Reads 8 rows, from place `from` on, and transposes them. The registers hold the columns, of 8 items
 /// each, one after another.

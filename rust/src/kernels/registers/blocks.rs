@@ -4,7 +4,7 @@
 use crate::kernels::bulk::{Ahead, Block, Blocked};
 use crate::kernels::places::Cells;
 use crate::kernels::registers::line_blocks::put_by_lines;
-use crate::kernels::registers::{Loads, Register, Runs, put_by_squares};
+use crate::kernels::registers::{Loads, Register, Runs, in_columns, in_rows, load_columns, store};
 
 /// Cells into which runs are put, too.
 pub(crate) trait RunsOfCells<T: Copy, D: Register<T>>: Runs<T, D> + Cells<Item = T> {}
@@ -94,4 +94,34 @@ fn is_square(side: usize, square: usize, block: Block) -> bool {
         && block.rows == square
         && (square == 4 || square == 8)
         && (side == square || side == square / 2)
+}
+
+/// Where row `c` of `count` rows begins. After the last row come the same rows again.
+#[inline(always)]
+fn start(first: usize, stride: usize, count: usize, c: usize) -> usize {
+    first + c % count * stride
+}
+
+/// Where the rows of a block begin, or those of its transpose.
+#[inline(always)]
+pub(super) fn starts(first: usize, stride: usize, count: usize) -> [usize; 8] {
+    eight!(start(first, stride, count))
+}
+
+/// Puts `D::SIDE` columns of a block, from column `col` on, which are squares one above another. If
+/// the block has 4 rows, the registers have each of its squares twice, and one of both is put.
+#[inline(always)]
+fn put_squares<T, D: Register<T>, S: Loads<T, D>, M: Runs<T, D>>(cells: &mut M, source: &S, block: Block, col: usize) {
+    let from = in_columns(starts(block.from, block.width, block.rows), [col; 8]);
+    let to = in_rows(starts(block.to, block.height, block.rows), D::SIDE, [col; 8]);
+    store(cells, block.rows, to, load_columns(source, from));
+}
+
+/// Does what `Blocked::put_block` does, by squares of `D::SIDE` rows.
+#[inline(always)]
+fn put_by_squares<T, D: Register<T>, S: Loads<T, D>, M: Runs<T, D>>(cells: &mut M, source: &S, block: Block) {
+    put_squares(cells, source, block, 0);
+    if D::SIDE < block.rows {
+        put_squares(cells, source, block, D::SIDE);
+    }
 }

@@ -3,7 +3,8 @@
 //! after the other.
 
 use crate::kernels::bulk::Block;
-use crate::kernels::registers::{Four, Loads, Register, Runs, load, load_two, next_stage, starts};
+use crate::kernels::registers::blocks::starts;
+use crate::kernels::registers::{Four, Loads, Register, Runs, load, load_two, next_stage};
 
 /// Reads 8 rows, from place `from` on, and transposes them. The registers hold the columns, of 8 items
 /// each, one after another.

@@ -3,7 +3,7 @@
 
 use crate::kernels::bulk::Tiled;
 use crate::kernels::places::Places;
-use crate::kernels::registers::{Register, Runs, exchange_tiles, turn_tile};
+use crate::kernels::registers::{Register, Runs, in_columns, in_rows, load_columns, store};
 
 /// Places of which tiles are exchanged and transposed by runs, too.
 pub(crate) trait RunsOfPlaces<T, D: Register<T>>: Runs<T, D> + Places<Item = T> {}
@@ -23,6 +23,74 @@ pub(crate) fn turn<T, D: Register<T>, M: RunsOfPlaces<T, D> + Tiled>(list: &mut 
     match D::SIDE {
         2 | 4 | 8 => turn_tile(list, x),
         _ => list.turn_tile_singly(x),
+    }
+}
+
+/// Exchanges `D::SIDE` rows of a tile, from row `row` on, with as many columns of the other.
+#[inline(always)]
+fn exchange_band<T, D: Register<T>, M: Runs<T, D>>(list: &mut M, x: [usize; 8], y: [usize; 8], row: usize) {
+    let in_x = in_rows(x, D::SIDE, [row; 8]);
+    let in_y = in_columns(y, [row; 8]);
+    let to_y = load_columns(list, in_x);
+    let to_x = load_columns(list, in_y);
+    store(list, 8, in_y, to_y);
+    store(list, 8, in_x, to_x);
+}
+
+/// Does what `Tiled::exchange_tiles` does, by squares of `D::SIDE` rows.
+#[inline(always)]
+fn exchange_tiles<T, D: Register<T>, M: Runs<T, D>>(list: &mut M, x: [usize; 8], y: [usize; 8]) {
+    match D::SIDE {
+        2 => {
+            exchange_band(list, x, y, 0);
+            exchange_band(list, x, y, 2);
+            exchange_band(list, x, y, 4);
+            exchange_band(list, x, y, 6);
+        }
+        4 => {
+            exchange_band(list, x, y, 0);
+            exchange_band(list, x, y, 4);
+        }
+        _ => exchange_band(list, x, y, 0),
+    }
+}
+
+/// The first column of the square whose mirror image is in row `c` of all squares.
+#[inline(always)]
+fn opposite(side: usize, sum: usize, c: usize) -> usize {
+    (8 + sum - (c - c % side)) % 8
+}
+
+/// The first column of the square whose mirror image is in row `c` of all squares, for each `c`.
+#[inline(always)]
+fn opposites(side: usize, sum: usize) -> [usize; 8] {
+    eight!(opposite(side, sum))
+}
+
+/// Transposes some squares of a tile, each into the place of its mirror image.
+#[inline(always)]
+fn turn_squares<T, D: Register<T>, M: Runs<T, D>>(list: &mut M, x: [usize; 8], sum: usize) {
+    let side = D::SIDE;
+    let tops = opposites(side, sum);
+    let columns = load_columns(list, in_columns(x, tops));
+    store(list, 8, in_rows(x, side, tops), columns);
+}
+
+/// Does what `Tiled::turn_tile` does, by squares of `D::SIDE` rows.
+#[inline(always)]
+fn turn_tile<T, D: Register<T>, M: Runs<T, D>>(list: &mut M, x: [usize; 8]) {
+    match D::SIDE {
+        2 => {
+            turn_squares(list, x, 0);
+            turn_squares(list, x, 2);
+            turn_squares(list, x, 4);
+            turn_squares(list, x, 6);
+        }
+        4 => {
+            turn_squares(list, x, 0);
+            turn_squares(list, x, 4);
+        }
+        _ => turn_squares(list, x, 0),
     }
 }
 

@@ -1,7 +1,7 @@
 -- Each row is one of eight.
 use Rattle.std.proofs.Common.{◌%◌, arith}
 use Rattle.p3_util_fast.proofs.RegistersSteps.{below_eight}
-use Rattle.p3_util_fast.proofs.registers.starts.Goals as goal
+use Rattle.p3_util_fast.proofs.registers.blocks.starts.Goals as goal
 
 pub returns-clause-are : goal.returns-clause-are
 returns-clause-are c =

@@ -1,7 +1,7 @@
 -- The columns of the block are put from the first to the last.
 use Rattle.std.proofs.Common.{◌≡◌, ◌+◌, ◌*◌, arith}
 use Rattle.p3_util_fast.proofs.RegistersBlocks.{ColumnsPut-joined, IsBlockPut-whole}
-use Rattle.p3_util_fast.proofs.registers.put_by_squares.Goals as goal
+use Rattle.p3_util_fast.proofs.registers.blocks.put_by_squares.Goals as goal
 
 pub returns-then-SIDE-block-clause-put : goal.returns-then-SIDE-block-clause-put
 returns-then-SIDE-block-clause-put g c =

@@ -2,7 +2,7 @@
 use Rattle.std.proofs.Common.{inr, refl}
 use Rattle.p3_util_fast.specs.Registers.{items_of_four}
 use Rattle.p3_util_fast.proofs.RegistersTiles.{AreDisjoint-rows, AreReached-rows, SquaresTurned-step, opposite, opposite_up, side_most}
-use Rattle.p3_util_fast.proofs.registers.turn_squares.Goals as goal
+use Rattle.p3_util_fast.proofs.registers.tiles.turn_squares.Goals as goal
 
 pub store-requires-clause-reached : goal.store-requires-clause-reached
 store-requires-clause-reached g c =

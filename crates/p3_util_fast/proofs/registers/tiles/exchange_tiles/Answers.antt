@@ -2,7 +2,7 @@
 use Rattle.std.proofs.Common.{◌≡◌, ◌*◌, arith}
 use Rattle.p3_util_fast.proofs.RegistersTiles.{RowsExchanged-joined, TilesExchanged-rows}
 use Rattle.p3_util_fast.proofs.RegistersSteps.{four_times}
-use Rattle.p3_util_fast.proofs.registers.exchange_tiles.Goals as goal
+use Rattle.p3_util_fast.proofs.registers.tiles.exchange_tiles.Goals as goal
 
 pub returns-in-2-clause-exchanged : goal.returns-in-2-clause-exchanged
 returns-in-2-clause-exchanged g c =

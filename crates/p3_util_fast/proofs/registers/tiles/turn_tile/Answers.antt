@@ -2,7 +2,7 @@
 use Rattle.std.proofs.Common.{◌≡◌, ◌*◌, arith}
 use Rattle.p3_util_fast.proofs.RegistersTiles.{SquaresTurned-joined, TileTurned-squares}
 use Rattle.p3_util_fast.proofs.RegistersSteps.{four_times}
-use Rattle.p3_util_fast.proofs.registers.turn_tile.Goals as goal
+use Rattle.p3_util_fast.proofs.registers.tiles.turn_tile.Goals as goal
 
 pub returns-in-2-clause-turned : goal.returns-in-2-clause-turned
 returns-in-2-clause-turned g c =
