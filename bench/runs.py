@@ -166,13 +166,13 @@ def table(head, rows):
 
 
 def by_clock(path, parts, names, least):
-    for line in output(path, "time", least, parts, *names).splitlines():
+    for line in output(path, least, parts, *names).splitlines():
         yield line, float(line.split("\t")[3])
 
 
 def by_valgrind(path, parts, names, _):
     with tempfile.TemporaryDirectory() as folder:
         printed = output("valgrind", "-q", "--tool=callgrind", f"--callgrind-out-file={folder}/out", "--collect-atstart=no", "--toggle-collect=bench_counted",
-                         "--dump-after=bench_counted", "--combine-dumps=yes", path, "count", 1, parts, *names)
+                         "--dump-after=bench_counted", "--combine-dumps=yes", path, 0, parts, *names)
         totals = [float(line.split()[1]) for line in pathlib.Path(folder, "out").read_text().splitlines() if line.startswith("totals: ")]
-    return zip((line for line in printed.splitlines() if line != "counted"), totals)
+    return zip(printed.splitlines(), totals)

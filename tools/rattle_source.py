@@ -30,17 +30,6 @@ class Token:
     line: int
     gap: str
 
-    def lines_before(self):
-        """How many lines end right before it or its comments."""
-        return self.gap[:len(self.gap) - len(self.gap.lstrip())].count("\n")
-
-    def set_lines_before(self, number):
-        rest = self.gap.lstrip()
-        self.gap = "\n" * number + self.gap[:len(self.gap) - len(rest)].rpartition("\n")[2] + rest
-
-    def indent(self):
-        return self.gap.rpartition("\n")[2]
-
 
 def scanned(text, name):
     """The tokens of `text`. The last token is empty. Its gap is what follows the others."""

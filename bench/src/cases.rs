@@ -35,20 +35,12 @@ impl Case {
         let (a, b): (usize, usize) = (a.parse().ok()?, b.parse().ok()?);
         let work = match call {
             "reverse" => Work::Reverse { log: b as u32 },
-            "rows" if b.is_power_of_two() => Work::Rows {
-                bytes: a,
-                log: b.ilog2(),
-            },
+            "rows" if b.is_power_of_two() => Work::Rows { bytes: a, log: b.ilog2() },
             "transpose" => Work::Transpose { width: a, height: b },
             _ => return None,
         };
         let item_size = item.parse().ok()?;
-        Some(Case {
-            name: name.into(),
-            work,
-            item_size,
-            parts,
-        })
+        Some(Case { name: name.into(), work, item_size, parts })
     }
 
     /// The number of items of the list.

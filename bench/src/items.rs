@@ -176,11 +176,7 @@ impl<T: Item> Lists<T> {
     fn check(&mut self, contender: Contender, wanted: &[T]) {
         self.to.copy_from_slice(&self.from);
         self.run(contender, 1);
-        let wanted = if contender == Contender::Copy {
-            self.from.as_slice()
-        } else {
-            wanted
-        };
+        let wanted = if contender == Contender::Copy { self.from.as_slice() } else { wanted };
         assert!(self.to == wanted, "wrong: {}", self.case.name);
     }
 }

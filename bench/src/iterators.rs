@@ -52,8 +52,7 @@ pub const ITERATED: [Timed; 8] = [
     pairs!("zip_eq, map and collect", |pairs| {
         black_box(pairs.map(|(x, y)| x.wrapping_add(*y)).collect::<Vec<_>>())[0]
     }),
-    pairs!("zip_eq and fold", |pairs| pairs
-        .fold(0, |sum: u64, (x, y)| sum.wrapping_add(x.wrapping_mul(*y)))),
+    pairs!("zip_eq and fold", |pairs| pairs.fold(0, |sum: u64, (x, y)| sum.wrapping_add(x.wrapping_mul(*y)))),
     pairs!("zip_eq and all", |pairs| {
         let (mut pairs, last) = (pairs, black_box(0));
         u64::from(pairs.all(|(x, y)| x ^ y == last))

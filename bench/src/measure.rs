@@ -37,8 +37,8 @@ pub type Runner = Box<dyn FnMut(usize, u32)>;
 pub enum Mode {
     /// Takes the time of at least so many runs.
     Time(usize),
-    /// Lets each contender do its task so many times while callgrind counts.
-    Count(Vec<usize>),
+    /// Lets each contender do its task once while callgrind counts.
+    Count,
 }
 
 /// Measures a task and prints a line for each contender.
@@ -52,13 +52,10 @@ pub fn measure(task: &impl Task, mode: &Mode) {
                 println!("{}\t{took}", line(contender));
             }
         }
-        Mode::Count(calls) => {
+        Mode::Count => {
             for (number, &contender) in contenders.iter().enumerate() {
                 println!("{}", line(contender));
-                for &times in calls {
-                    bench_counted(&mut || runner(number, times as u32));
-                    println!("counted");
-                }
+                bench_counted(&mut || runner(number, 1));
             }
         }
     }

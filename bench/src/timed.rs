@@ -53,9 +53,7 @@ impl Task for Timed {
 
     fn prepare(&self) -> Runner {
         // The factor is odd, so the numbers are distinct.
-        let list: Vec<u64> = (1..=self.items)
-            .map(|i| i.wrapping_mul(0x9e37_79b9_7f4a_7c15))
-            .collect();
+        let list: Vec<u64> = (1..=self.items).map(|i| i.wrapping_mul(0x9e37_79b9_7f4a_7c15)).collect();
         let passes: Vec<Pass> = self.passes.iter().map(|pass| pass(list.clone())).collect();
         let result = passes[0]();
         assert!(passes.iter().all(|pass| pass() == result), "{}: not equal", self.name);

@@ -69,7 +69,5 @@ fn below_power(random: u64) -> Input {
 /// The `i`th number of a fixed list.
 fn random(i: u64) -> u64 {
     let mixed = (i + 1).wrapping_mul(0x9e37_79b9_7f4a_7c15);
-    (mixed ^ (mixed >> 32))
-        .wrapping_mul(0xbf58_476d_1ce4_e5b9)
-        .rotate_left(32)
+    (mixed ^ (mixed >> 32)).wrapping_mul(0xbf58_476d_1ce4_e5b9).rotate_left(32)
 }

@@ -20,17 +20,16 @@ fn reverses<T: Debug + PartialEq + Send + Sync>(item: impl Fn(u8) -> T) {
 fn moves<T: Copy + Debug + PartialEq + Send + Sync>(item: impl Fn(u8) -> T) {
     let items = |numbers: [u8; 6]| numbers.map(&item);
     reverses(&item);
-    assert_eq!(
-        tree::transposed(&items([1, 2, 3, 4, 5, 6]), 3),
-        items([1, 4, 2, 5, 3, 6])
-    );
+    assert_eq!(tree::transposed(&items([1, 2, 3, 4, 5, 6]), 3), items([1, 4, 2, 5, 3, 6]));
 }
 
 /// What the proved package has in addition to the original's names. The project does not depend on the package itself.
 #[cfg(target_pointer_width = "64")]
 fn calls_of_the_package() {
     use p3_util::proved::{
-        kernels::places::{SlicePlaces, Swaps}, kernels::reverse::reverse_index_bits_on, parts, reverse_slice_row_index_bits,
+        kernels::places::{SlicePlaces, Swaps},
+        kernels::reverse::reverse_index_bits_on,
+        parts, reverse_slice_row_index_bits,
     };
 
     let mut rows = [0, 1, 10, 11, 20, 21, 30, 31];
