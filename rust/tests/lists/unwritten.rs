@@ -44,40 +44,27 @@ fn moves<T: Copy + Send + Sync>(write: impl Fn(*mut T, usize), is: impl Fn(&T, u
     }
 }
 
+/// Padding between fields and behind them. The last two have 24 and 40 bytes, and are written in parts.
 #[test]
 fn padding() {
     macro_rules! of {
-        ($($first:ty, $second:ty);*) => { $(moves(
-            |item: *mut ($first, $second), i| unsafe {
+        ($($item:ty: $of_number:expr;)*) => { $({
+            let numbered: fn(usize) -> $item = $of_number;
+            let write = |item: *mut $item, i| unsafe {
                 // SAFETY (of both): the pointer is valid for writes of an item, so also for those of its fields.
-                (&raw mut (*item).0).write(i as $first);
-                (&raw mut (*item).1).write(i as $second);
-            },
-            |item, i| *item == (i as $first, i as $second),
-        );)* };
+                (&raw mut (*item).0).write(numbered(i).0);
+                (&raw mut (*item).1).write(numbered(i).1);
+            };
+            moves(write, |item, i| *item == numbered(i));
+        })* };
     }
-    of!(u8, u16; u32, u8; u64, u8);
-}
-
-/// Items of 24 and of 40 bytes, which are written in parts. Their last 7 bytes are padding.
-#[test]
-fn padding_of_items_in_parts() {
-    moves(
-        |item: *mut ([u64; 2], u8), i| unsafe {
-            // SAFETY (of both): the pointer is valid for writes of an item, so also for those of its fields.
-            (&raw mut (*item).0).write([i as u64, !i as u64]);
-            (&raw mut (*item).1).write(i as u8);
-        },
-        |item, i| *item == ([i as u64, !i as u64], i as u8),
-    );
-    moves(
-        |item: *mut (u8, [u64; 4]), i| unsafe {
-            // SAFETY (of both): as above.
-            (&raw mut (*item).0).write(i as u8);
-            (&raw mut (*item).1).write([i as u64, 1, !i as u64, 3]);
-        },
-        |item, i| *item == (i as u8, [i as u64, 1, !i as u64, 3]),
-    );
+    of! {
+        (u8, u16): |i| (i as u8, i as u16);
+        (u32, u8): |i| (i as u32, i as u8);
+        (u64, u8): |i| (i as u64, i as u8);
+        ([u64; 2], u8): |i| ([i as u64, !i as u64], i as u8);
+        (u8, [u64; 4]): |i| (i as u8, [i as u64, 1, !i as u64, 3]);
+    }
 }
 
 #[test]
