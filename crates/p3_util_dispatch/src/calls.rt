@@ -7,7 +7,7 @@ ghost use Rattle.p3_util_kernels.specs.Transpose.{IsTranspose};
 
 use crate::choice::{
     EIGHT_ROWS, LONG_BYTES, Limits, SEVERAL_COLUMNS, SHORT_COLUMN, few_items_of, has_eight_rows,
-    has_lines, row_blocks_of, side_of, strips_of,
+    has_lines, side_of, strips_of,
 };
 use crate::lines::Lines;
 use p3_util_fast::bulk::{Ahead, Blocked};
@@ -137,7 +137,8 @@ fn transpose_tiny<M: Output, R: Ahead<Item = M::Item> + Copy>(
     let matrix = Matrix::new(source, width, height);
     let whole = matrix.whole();
     if M::TESTS_INDICES {
-        Blocks::<4, _>(ShortColumns).put(cells, matrix, whole)
+        let blocks = Blocks::<4, _>(Blocks::<2, _>(Blocks::<1, _>(Columns)));
+        blocks.put(cells, matrix, whole)
     } else if height <= SHORT_COLUMN {
         ShortColumns.put(cells, matrix, whole)
     } else {
@@ -220,9 +221,9 @@ fn put_region<M: Output, R: Ahead<Item = M::Item> + Copy>(
         return columns.put(cells, matrix, region);
     }
     if M::TESTS_INDICES {
-        if let Some(blocks) = row_blocks_of(size, width, height) {
-            return columns_at_a_time(blocks).put(cells, matrix, region);
-        }
+        let few = Blocks::<4, _>(Blocks::<2, _>(Blocks::<1, _>(Columns)));
+        let blocks = Blocks::<16, _>(Blocks::<8, _>(few));
+        return columns_at_a_time(blocks).put(cells, matrix, region);
     }
     if has_eight_rows(size, M::SIDE, width, height) {
         let strips = InRows::<EIGHT_ROWS, _, _>(Columns, Columns);

@@ -20,12 +20,12 @@
 //! | all others | lowest if 16 divides the width, otherwise low, column after column | see [`strips_of`] |
 //!
 //! Items are put past the caches on x86-64, and by blocks where they are transposed in registers. Elsewhere these rows fit no
-//! matrix. Where each index is tested, [`row_blocks_of`] comes before the strips.
+//! matrix. Where each index is tested, items of less than 1 KiB are not put column after column or in strips, but by blocks of 16,
+//! 8, 4, 2 and 1 rows, or of 4, 2 and 1 if they are few: the holder tests each row and column of a block, and no single item.
 
 ghost use Rattle.p3_util_kernels.specs.Region.{LiesInMatrix};
 
 use p3_util_fast::strips::{HIGH_ROWS, Strips, TINY_MATRIX, UNIT};
-use p3_util_fast::ways::RowBlocks;
 use p3_util_kernels::transpose::{Matrix, Region};
 
 /// An item of so many bytes is exchanged as a run of bytes, which takes hardly longer, and is put by a function of its own.
@@ -44,9 +44,6 @@ pub(crate) const SEVERAL_COLUMNS: usize = 512;
 /// The bytes of a vector register.
 const VECTOR: usize = 16;
 
-/// A list of more bytes and its transpose do not fit together in a cache of 1 MiB, which is of the second level.
-const FAR_LIST: usize = 1 << 19;
-
 /// The rows of a strip of short items whose rows have whole pages.
 pub(crate) const EIGHT_ROWS: usize = 8;
 
@@ -56,7 +53,7 @@ const SHORT_BYTES: usize = 8;
 /// The bytes of a page. The lines at the same place of several pages lie in one set of the first-level cache.
 const PAGE: usize = 1 << 12;
 
-/// A column of so many bytes is long. Where each index is tested, a matrix with long columns is put by blocks of 16 rows.
+/// A column of so many bytes is long.
 const LONG_COLUMN: usize = 1 << 9;
 
 /// From how many bytes on a matrix is put past the caches.
@@ -122,28 +119,6 @@ pub(crate) fn has_eight_rows(size: usize, side: usize, width: usize, height: usi
         && size < SHORT_BYTES
         && width.wrapping_mul(size) % PAGE == 0
         && height.wrapping_mul(size) < LONG_COLUMN
-}
-
-/// Where each index is tested, a matrix is put by blocks of several rows instead of columns and strips. The holder tests each
-/// row and each column of such a block, but not each item:
-///
-/// | Matrix | [`RowBlocks`] | Why |
-/// |---|---|---|
-/// | fewer than 256 items: column after column above | none: blocks of 4 rows | such a matrix has few rows |
-/// | items of 1 KiB and more: [`LONG_BYTES`] | none: strips as above | the tests take little of the time of so many bytes |
-/// | items of more than 16 bytes, in lists of more than 512 KiB: `FAR_LIST` | none | the same |
-/// | a column of 512 bytes and more: `LONG_COLUMN` | `Sixteen` | half as many parts of a cache line of the output are stored |
-/// | all others | `Eight` | the loop needs fewer registers |
-#[inline(always)]
-pub(crate) fn row_blocks_of(size: usize, width: usize, height: usize) -> Option<RowBlocks> {
-    let column = height.wrapping_mul(size);
-    if size > VECTOR && width.wrapping_mul(column) > FAR_LIST {
-        None
-    } else if column >= LONG_COLUMN {
-        Some(RowBlocks::Sixteen)
-    } else {
-        Some(RowBlocks::Eight)
-    }
 }
 
 /// The side of the blocks in which items of `size` bytes are transposed in registers, or 1 if there are none.

@@ -1,5 +1,5 @@
 -- A block of a matrix, put where its transpose belongs. Source: new.
-use Rattle.std.specs.Prelude.{ℕ, ◌≡◌, ◌≢◌, ◌+◌, ◌*◌, ◌<◌, ◌≤◌, List, [], ◌∷◌, take, drop, length, slice_get}
+use Rattle.std.specs.Prelude.{ℕ, ◌≡◌, ◌≢◌, ◌+◌, ◌*◌, ◌<◌, ◌≤◌, List, IfSome, take, drop, length, slice_get}
 use Rattle.std.specs.Borrow.{Bor}
 use Rattle.p3_util_fast.specs.declared.bulk.Block.{Block}
 
@@ -21,7 +21,6 @@ pub record IsBlockPut {A : Type 0} (n : ℕ) (block : Block) (input old new : Li
   pub places : (r c : ℕ) → r < block.rows → block.rows * c + r < n → slice_get new (block.to + c * block.height + r) ≡ slice_get input (block.from + r * block.width + c)
   pub others : (p : ℕ) → ((r c : ℕ) → r < block.rows → block.rows * c + r < n → p ≢ block.to + c * block.height + r) → slice_get new p ≡ slice_get old p
 
--- The lists are the rows of the block from row r on.
-unfoldable pub AreRows : {A : Type 0} → Block → ℕ → List A → List (Bor (List A)) → Type 0
-AreRows block r input [] = Unit
-AreRows block r input (row ∷ rows) = (row.now ≡ take block.cols (drop (block.from + r * block.width) input)) × AreRows block (r + 1) input rows
+-- The first n lists are the first rows of the block.
+abbrev pub AreRows : {A : Type 0} → Block → ℕ → List A → List (Bor (List A)) → Type 0
+AreRows block n input rows = (r : ℕ) → r < n → IfSome (slice_get rows r) (λ row. row.now ≡ take block.cols (drop (block.from + r * block.width) input))

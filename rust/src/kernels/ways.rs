@@ -109,28 +109,6 @@ impl<const ROWS: usize, V: PutRegion> PutRegion for Blocks<ROWS, V> {
     }
 }
 
-/// Puts blocks of many rows in the holder's own way: blocks of 8 or of 16 rows first. Most of the rows
-/// that remain are put by blocks too, and at most three of them column after column.
-#[derive(Clone, Copy)]
-pub(crate) enum RowBlocks {
-    /// Blocks of 8 rows. It is the better one for columns that are short in memory.
-    Eight,
-    /// Blocks of 16 rows, and then one of 8. They touch each cache line of a long column only half as
-    /// often.
-    Sixteen,
-}
-
-impl PutRegion for RowBlocks {
-    #[inline(always)]
-    fn put<M: Blocked, R: Ahead<Item = M::Item> + Copy>(self, out: M, matrix: Matrix<R>, region: Region) -> M {
-        let eight = Blocks::<8, _>(Outlined(Blocks::<4, _>(Columns)));
-        match self {
-            RowBlocks::Eight => Outlined(eight).put(out, matrix, region),
-            RowBlocks::Sixteen => Outlined(Blocks::<16, _>(eight)).put(out, matrix, region),
-        }
-    }
-}
-
 /// Puts a region in this way, by a function that is not inlined. So its loops take no registers from
 /// those of the caller.
 #[derive(Clone, Copy)]

@@ -1,8 +1,9 @@
 -- A block is put item by item, and what it leaves is the transpose of a region.
-use Rattle.std.proofs.Common.{◌≡◌, ℕ, ◌+◌, ◌-◌, ◌*◌, ◌<◌, ◌≤◌, ◌++◌, List, [], ◌∷◌, zero, suc, Bor, Some, IfSome, length, slice_get, slice_set, take, drop, length-drop, refl, sym, ap, ◌∙◌, inl, inr, length-take, length-set, arith}
+use Rattle.std.proofs.Common.{◌≡◌, ℕ, ◌+◌, ◌-◌, ◌*◌, ◌<◌, ◌≤◌, ◌++◌, List, Some, Bor, IfSome, length, slice_get, slice_set, take, drop, length-drop, refl, sym, ap, ◌∙◌, inl, inr, length-take, length-set, arith}
 use Rattle.std.proofs.Math.Nat.{lt_of_mul-lt-mul_left, mul-le-mul_left}
 use Rattle.std.proofs.lemmas.Bool.{cases_eq, cases_lt}
 use Rattle.std.proofs.lemmas.Nat.{mul-add-lt, same_from_place}
+use Rattle.std.proofs.lemmas.Option.{IfSome_then, slice_get_cases}
 use Rattle.p3_util_fast.specs.declared.bulk.Block.{Block}
 use Rattle.p3_util_kernels.specs.declared.transpose.region.Region.{Region}
 use Rattle.p3_util_fast.specs.BlockPut.{AreRows, BlockFits, IsBlockPut, block_items}
@@ -14,30 +15,32 @@ mul-le_next : (k c n : ℕ) → c < n → k * c + k ≤ k * n
 mul-le_next k c n h = omega (arith, mul-le-mul_left k (let next : c + 1 ≤ n = omega (arith, h) in next))
 
 -- the rows of a block, as lists
-module _ {A : Type 0} (block : Block) (input : List A) where
-  -- a row has an item in each column
-  pub rows-long : (first : ℕ) (rows : List (Bor (List A))) (r start col : ℕ) → AreRows block first input rows → r < length rows
-      → start ≡ block.from + (first + r) * block.width → start + block.cols ≤ length input → col < block.cols → IfSome (slice_get rows r) (λ row. col < length row.now)
-  unfolding AreRows
-  rows-long first [] r start col are h at room hc = elim h [ ]
-  rows-long first (row ∷ rows) zero start col are h at room hc =
-      let same : start ≡ block.from + first * block.width = at ∙ ap (λ n. block.from + n * block.width) (omega arith) in
-      omega (arith, same, ap length are.0, length-take block.cols (drop (block.from + first * block.width) input), length-drop (block.from + first * block.width) input)
-  rows-long first (row ∷ rows) (suc r) start col are h at room hc =
-      rows-long (first + 1) rows r start col are.1 (omega (arith, h)) (at ∙ ap (λ n. block.from + n * block.width) (omega arith)) room hc
+module _ {A : Type 0} (block : Block) (input : List A) (rows : List (Bor (List A))) where
+  -- one more list is a row
+  pub AreRows-more : (n : ℕ) (row : Bor (List A)) → n < length rows → row.now ≡ take block.cols (drop (block.from + n * block.width) input)
+      → AreRows block n input rows → AreRows block (n + 1) input (slice_set rows n row)
+  AreRows-more n row room same before r h = elim (cases_lt r n) [
+    | inl earlier ↦ rw (slice_get-set_other rows n r row (λ e. omega (arith, e, earlier))) (before r earlier)
+    | inr later ↦ let at : r ≡ n = omega (arith, h, later) in rw (at, slice_get-set_same rows n row room) same
+  ]
 
-  -- what is put of a row is the item of the block
-  pub rows-item : (first : ℕ) (rows : List (Bor (List A))) (r start col p : ℕ) (column : List A) → AreRows block first input rows → r < length rows
-      → start ≡ block.from + (first + r) * block.width → col < block.cols → IfSome (slice_get rows r) (λ row. slice_get column p ≡ slice_get row.now col)
-      → slice_get column p ≡ slice_get input (start + col)
-  unfolding AreRows
-  rows-item first [] r start col p column are h at hc put = elim h [ ]
-  rows-item first (row ∷ rows) zero start col p column are h at hc put =
-      let same : start ≡ block.from + first * block.width = at ∙ ap (λ n. block.from + n * block.width) (omega arith) in
-      put ∙ ap (λ xs. slice_get xs col) are.0 ∙ slice_get-take block.cols (drop (block.from + first * block.width) input) col hc
-      ∙ slice_get-drop (block.from + first * block.width) input col (start + col) (omega (arith, same))
-  rows-item first (row ∷ rows) (suc r) start col p column are h at hc put =
-      rows-item (first + 1) rows r start col p column are.1 (omega (arith, h)) (at ∙ ap (λ n. block.from + n * block.width) (omega arith)) hc put
+  module _ (n : ℕ) (are : AreRows block n input rows) (r col : ℕ) (h : r < n) (hc : col < block.cols) where
+    -- a row has an item in each column
+    pub row-long : block.from + r * block.width + block.cols ≤ length input → IfSome (slice_get rows r) (λ row. col < length row.now)
+    row-long room = let start = block.from + r * block.width in
+        IfSome_then (slice_get rows r) (are r h) (λ row same. omega (arith, ap length same, length-take block.cols (drop start input), length-drop start input))
+
+    -- what is put of a row is the item of the block
+    pub row-item : (column : List A) → r < length rows → IfSome (slice_get rows r) (λ row. slice_get column r ≡ slice_get row.now col)
+        → slice_get column r ≡ slice_get input (block.from + r * block.width + col)
+    row-item column room put = let start = block.from + r * block.width in
+        elim (slice_get_cases rows r).1 [
+          | inl found ↦
+              let same : found.0.now ≡ take block.cols (drop start input) = rw found.2 at (are r h) in
+              let item : slice_get column r ≡ slice_get found.0.now col = rw found.2 at put in
+              item ∙ ap (λ xs. slice_get xs col) same ∙ slice_get-take block.cols (drop start input) col hc ∙ slice_get-drop start input col (start + col) (omega arith)
+          | inr past ↦ absurd (omega (arith, past.0, room))
+        ]
 
 module _ (block : Block) (input_len output_len : ℕ) (fits : BlockFits block input_len output_len) where
   -- the cell of the item in row r and column c, and the index of this item

@@ -32,130 +32,89 @@ impl<'a, T: Copy> Blocked for SliceCells<'a, T> {
     #[inline(always)]
     fn put_block<R: Ahead<Item = T>>(&mut self, source: &R, block: Block) {
         match source.as_slice() {
-            Some(items) if block.rows == 4 && block.cols > 0 => put_four(self.values, items, block),
-            Some(items) if block.rows == 8 && block.cols > 0 => put_eight(
-                self.values,
-                items,
-                block,
-            ),
             Some(items) if block.rows == 16 && block.cols > 0 => {
-                put_sixteen(self.values, items, block)
+                put_rows_apart::<16, _>(self.values, items, block)
+            }
+            Some(items) if block.rows == 8 && block.cols > 0 => {
+                put_rows_apart::<8, _>(self.values, items, block)
+            }
+            Some(items) if block.rows == 4 && block.cols > 0 => {
+                put_rows::<4, _>(self.values, items, block)
+            }
+            Some(items) if block.rows == 2 && block.cols > 0 => {
+                put_rows::<2, _>(self.values, items, block)
+            }
+            Some(items) if block.rows == 1 && block.cols > 0 => {
+                put_rows::<1, _>(self.values, items, block)
             }
             _ => self.put_block_singly(source, block),
         }
     }
 }
 
-/// Puts a block of 4 rows.
-#[tactic(auto, unfolding(crate::specs::BlockPut::AreRows))]
-#[inline(always)]
-fn put_four<T: Copy>(values: &mut [T], items: &[T], block: Block)
-    requires rows { block.rows ≡ 4 }
-    requires cols { 0 < block.cols }
-    requires fits { BlockFits block (length items.now) (length values.old) }
-    ensures { IsBlockPut (block_items block) block items.now values.old values.new }
-{
-    let rows = [
-        row_of(items, block, 0),
-        row_of(items, block, 1),
-        row_of(items, block, 2),
-        row_of(items, block, 3),
-    ];
-    put_rows(values, items, &rows, block);
-}
-
-/// Puts a block of 8 rows.
-#[tactic(auto, unfolding(crate::specs::BlockPut::AreRows))]
-#[inline(always)]
-fn put_eight<T: Copy>(values: &mut [T], items: &[T], block: Block)
-    requires rows { block.rows ≡ 8 }
-    requires cols { 0 < block.cols }
-    requires fits { BlockFits block (length items.now) (length values.old) }
-    ensures { IsBlockPut (block_items block) block items.now values.old values.new }
-{
-    let rows = [
-        row_of(items, block, 0),
-        row_of(items, block, 1),
-        row_of(items, block, 2),
-        row_of(items, block, 3),
-        row_of(items, block, 4),
-        row_of(items, block, 5),
-        row_of(items, block, 6),
-        row_of(items, block, 7),
-    ];
-    put_rows(values, items, &rows, block);
-}
-
-/// Puts a block of 16 rows.
-#[tactic(auto, unfolding(crate::specs::BlockPut::AreRows))]
-#[inline(always)]
-fn put_sixteen<T: Copy>(values: &mut [T], items: &[T], block: Block)
-    requires rows { block.rows ≡ 16 }
-    requires cols { 0 < block.cols }
-    requires fits { BlockFits block (length items.now) (length values.old) }
-    ensures { IsBlockPut (block_items block) block items.now values.old values.new }
-{
-    let rows = [
-        row_of(items, block, 0),
-        row_of(items, block, 1),
-        row_of(items, block, 2),
-        row_of(items, block, 3),
-        row_of(items, block, 4),
-        row_of(items, block, 5),
-        row_of(items, block, 6),
-        row_of(items, block, 7),
-        row_of(items, block, 8),
-        row_of(items, block, 9),
-        row_of(items, block, 10),
-        row_of(items, block, 11),
-        row_of(items, block, 12),
-        row_of(items, block, 13),
-        row_of(items, block, 14),
-        row_of(items, block, 15),
-    ];
-    put_rows(values, items, &rows, block);
-}
-
-/// Row `r` of a block.
-#[inline(always)]
-fn row_of<T>(items: &[T], block: Block, r: usize) -> &[T]
-    requires row { r < block.rows }
-    requires some { 0 < block.cols }
-    requires inside { (s c : ℕ) → s < block.rows → c < block.cols
-        → block.from + s * block.width + c < length items.now }
-    ensures { result.now ≡ take block.cols (drop (block.from + r * block.width) items.now) }
-{
-    let start = block.from + r * block.width;
-    &items[start..start + block.cols]
-}
-
-/// Puts a block that has these rows, column after column. One test is made for each column, and none
-/// for a single item.
-#[inline(always)]
-fn put_rows<T: Copy>(values: &mut [T], items: &[T], rows: &[&[T]], block: Block)
+/// Does the same as [`put_rows`]. It is not inlined, so the compiler knows that the lists do not
+/// overlap.
+#[inline(never)]
+fn put_rows_apart<const ROWS: usize, T: Copy>(values: &mut [T], items: &[T], block: Block)
     requires some { 0 < block.rows }
-    requires count { length rows.now ≡ block.rows }
-    requires rows { AreRows block 0 items.now rows.now }
+    requires most { ROWS ≤ 16 }
+    requires rows { block.rows ≡ ROWS }
+    requires cols { 0 < block.cols }
+    requires fits { BlockFits block (length items.now) (length values.old) }
+    ensures { IsBlockPut (block_items block) block items.now values.old values.new }
+{
+    put_rows::<ROWS, _>(values, items, block);
+}
+
+/// Puts a block of `ROWS` rows, column after column. One test is made for each row and each column,
+/// and none for a single item.
+#[inline(always)]
+fn put_rows<const ROWS: usize, T: Copy>(values: &mut [T], items: &[T], block: Block)
+    requires some { 0 < block.rows }
+    requires most { ROWS ≤ 16 }
+    requires rows { block.rows ≡ ROWS }
+    requires cols { 0 < block.cols }
     requires fits { BlockFits block (length items.now) (length values.old) }
     ensures { IsBlockPut (block_items block) block items.now values.old values.new }
 {
     len_fits(items.len());
+    let rows = rows_of::<ROWS, _>(items, block);
     for col in 0..block.cols {
         let at = block.to + col * block.height;
-        put_column(&mut values[at..at + rows.len()], rows, col);
+        put_column(&mut values[at..at + ROWS], &rows, col);
     }
 }
 
-/// Puts item `col` of each row.
+/// An array whose first `ROWS` items are the rows of a block. The compiler knows that these slices
+/// have one length. The checker takes no array of `ROWS` references, so the array has 16 items.
+#[inline(always)]
+fn rows_of<const ROWS: usize, T>(items: &[T], block: Block) -> [&[T]; 16]
+    requires most { ROWS ≤ 16 }
+    requires rows { block.rows ≡ ROWS }
+    requires cols { 0 < block.cols }
+    requires inside { (r c : ℕ) → r < block.rows → c < block.cols
+        → block.from + r * block.width + c < length items.now }
+    ensures len { length result ≡ 16 }
+    ensures rows { AreRows block block.rows items.now result }
+{
+    let mut rows = [items; 16];
+    for r in 0..ROWS {
+        rows[r] = &items[block.from + r * block.width..][..block.cols];
+    }
+    rows
+}
+
+/// Puts item `col` of each of the first rows.
 #[inline(always)]
 fn put_column<T: Copy>(column: &mut [T], rows: &[&[T]], col: usize)
-    requires count { length column.old ≡ length rows.now }
-    requires long { (r : ℕ) → r < length rows.now → IfSome (slice_get rows.now r) (λ row. col < length row.now) }
-    ensures same_length { length column.new ≡ length rows.now }
-    ensures put { (r : ℕ) → r < length rows.now
+    requires most { length column.old ≤ length rows.now }
+    requires long { (r : ℕ) → r < length column.old
+        → IfSome (slice_get rows.now r) (λ row. col < length row.now) }
+    ensures same_length { length column.new ≡ length column.old }
+    ensures put { (r : ℕ) → r < length column.old
         → IfSome (slice_get rows.now r) (λ row. slice_get column.new r ≡ slice_get row.now col) }
 {
-    for r in 0..rows.len() {
+    for r in 0..column.len() {
         let row = rows[r];
         column[r] = row[col];
     }

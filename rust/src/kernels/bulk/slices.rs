@@ -27,87 +27,51 @@ impl<'a, T: Copy> Blocked for SliceCells<'a, T> {
     #[inline(always)]
     fn put_block<R: Ahead<Item = T>>(&mut self, source: &R, block: Block) {
         match source.as_slice() {
-            Some(items) if block.rows == 4 && block.cols > 0 => put_four(self.values, items, block),
-            Some(items) if block.rows == 8 && block.cols > 0 => put_eight(self.values, items, block),
-            Some(items) if block.rows == 16 && block.cols > 0 => put_sixteen(self.values, items, block),
+            Some(items) if block.rows == 16 && block.cols > 0 => put_rows_apart::<16, _>(self.values, items, block),
+            Some(items) if block.rows == 8 && block.cols > 0 => put_rows_apart::<8, _>(self.values, items, block),
+            Some(items) if block.rows == 4 && block.cols > 0 => put_rows::<4, _>(self.values, items, block),
+            Some(items) if block.rows == 2 && block.cols > 0 => put_rows::<2, _>(self.values, items, block),
+            Some(items) if block.rows == 1 && block.cols > 0 => put_rows::<1, _>(self.values, items, block),
             _ => self.put_block_singly(source, block),
         }
     }
 }
 
-/// Puts a block of 4 rows.
-#[inline(always)]
-fn put_four<T: Copy>(values: &mut [T], items: &[T], block: Block) {
-    let rows = [row_of(items, block, 0), row_of(items, block, 1), row_of(items, block, 2), row_of(items, block, 3)];
-    put_rows(values, items, &rows, block);
+/// Does the same as [`put_rows`]. It is not inlined, so the compiler knows that the lists do not
+/// overlap.
+#[inline(never)]
+fn put_rows_apart<const ROWS: usize, T: Copy>(values: &mut [T], items: &[T], block: Block) {
+    put_rows::<ROWS, _>(values, items, block);
 }
 
-/// Puts a block of 8 rows.
+/// Puts a block of `ROWS` rows, column after column. One test is made for each row and each column,
+/// and none for a single item.
 #[inline(always)]
-fn put_eight<T: Copy>(values: &mut [T], items: &[T], block: Block) {
-    let rows = [
-        row_of(items, block, 0),
-        row_of(items, block, 1),
-        row_of(items, block, 2),
-        row_of(items, block, 3),
-        row_of(items, block, 4),
-        row_of(items, block, 5),
-        row_of(items, block, 6),
-        row_of(items, block, 7),
-    ];
-    put_rows(values, items, &rows, block);
-}
-
-/// Puts a block of 16 rows.
-#[inline(always)]
-fn put_sixteen<T: Copy>(values: &mut [T], items: &[T], block: Block) {
-    let rows = [
-        row_of(items, block, 0),
-        row_of(items, block, 1),
-        row_of(items, block, 2),
-        row_of(items, block, 3),
-        row_of(items, block, 4),
-        row_of(items, block, 5),
-        row_of(items, block, 6),
-        row_of(items, block, 7),
-        row_of(items, block, 8),
-        row_of(items, block, 9),
-        row_of(items, block, 10),
-        row_of(items, block, 11),
-        row_of(items, block, 12),
-        row_of(items, block, 13),
-        row_of(items, block, 14),
-        row_of(items, block, 15),
-    ];
-    put_rows(values, items, &rows, block);
-}
-
-/// Row `r` of a block.
-#[inline(always)]
-fn row_of<T>(items: &[T], block: Block, r: usize) -> &[T] {
-    let start = block.from + r * block.width;
-    &items[start as core::primitive::usize..(start + block.cols) as core::primitive::usize]
-}
-
-/// Puts a block that has these rows, column after column. One test is made for each column, and none
-/// for a single item.
-#[inline(always)]
-fn put_rows<T: Copy>(values: &mut [T], items: &[T], rows: &[&[T]], block: Block) {
+fn put_rows<const ROWS: usize, T: Copy>(values: &mut [T], items: &[T], block: Block) {
     len_fits(items.len() as usize);
+    let rows = rows_of::<ROWS, _>(items, block);
     for col in 0..block.cols {
         let at = block.to + col * block.height;
-        put_column(
-            &mut values[at as core::primitive::usize..(at + rows.len() as usize) as core::primitive::usize],
-            rows,
-            col,
-        );
+        put_column(&mut values[at as core::primitive::usize..(at + ROWS) as core::primitive::usize], &rows, col);
     }
 }
 
-/// Puts item `col` of each row.
+/// An array whose first `ROWS` items are the rows of a block. The compiler knows that these slices
+/// have one length. The checker takes no array of `ROWS` references, so the array has 16 items.
+#[inline(always)]
+fn rows_of<const ROWS: usize, T>(items: &[T], block: Block) -> [&[T]; 16] {
+    let mut rows = [items; 16];
+    for r in 0..ROWS {
+        rows[r as core::primitive::usize] = &items[(block.from + r * block.width) as core::primitive::usize..]
+            [..(block.cols) as core::primitive::usize];
+    }
+    rows
+}
+
+/// Puts item `col` of each of the first rows.
 #[inline(always)]
 fn put_column<T: Copy>(column: &mut [T], rows: &[&[T]], col: usize) {
-    for r in 0..rows.len() as usize {
+    for r in 0..column.len() as usize {
         let row = rows[r as core::primitive::usize];
         column[r as core::primitive::usize] = row[col as core::primitive::usize];
     }

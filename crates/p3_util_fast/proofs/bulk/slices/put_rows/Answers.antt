@@ -1,6 +1,6 @@
 -- Each turn of the loop puts one more column.
-use Rattle.std.proofs.Common.{rules, ◌≡◌, ℕ, ◌+◌, ◌-◌, ◌*◌, ◌≤◌, length, refl, ap, arith, ◌∙◌}
-use Rattle.p3_util_fast.proofs.BulkLemmas.Blocks.{IsBlockPut-column, rows-item, rows-long}
+use Rattle.std.proofs.Common.{rules, ◌≡◌, ℕ, ◌+◌, ◌-◌, ◌*◌, ◌≤◌, length, refl, arith, ◌∙◌}
+use Rattle.p3_util_fast.proofs.BulkLemmas.Blocks.{IsBlockPut-column, row-item, row-long}
 use Rattle.p3_util_fast.proofs.bulk.slices.put_rows.Goals as goal
 
 pub loop-col-init : goal.loop-col-init
@@ -14,7 +14,7 @@ pub overflow_add-at : goal.overflow_add-at
 overflow_add-at g c = omega (arith, c.requires.fits.room 0 c.loop-col.col c.requires.some c.loop-col-test.true, c.loop-col.invariant.same_length)
 
 pub overflow_add-at-in-loop-col : goal.overflow_add-at-in-loop-col
-overflow_add-at-in-loop-col g c = omega (arith, c.requires.count, c.requires.fits.room (c.args.block.rows - 1) c.loop-col.col (omega (arith, c.requires.some)) c.loop-col-test.true, c.loop-col.invariant.same_length)
+overflow_add-at-in-loop-col g c = omega (arith, c.requires.rows, c.requires.fits.room (c.args.block.rows - 1) c.loop-col.col (omega (arith, c.requires.some)) c.loop-col-test.true, c.loop-col.invariant.same_length)
 
 pub offset_bounds-values-at : goal.offset_bounds-values-at
 offset_bounds-values-at g c =
@@ -23,25 +23,20 @@ offset_bounds-values-at g c =
     search rules
 
 pub slice_bounds-put_column-end : goal.slice_bounds-put_column-end
-slice_bounds-put_column-end g c = omega (arith, c.requires.count, c.requires.fits.room (c.args.block.rows - 1) c.loop-col.col (omega (arith, c.requires.some)) c.loop-col-test.true, c.loop-col.invariant.same_length)
+slice_bounds-put_column-end g c = omega (arith, c.requires.rows, c.requires.fits.room (c.args.block.rows - 1) c.loop-col.col (omega (arith, c.requires.some)) c.loop-col-test.true, c.loop-col.invariant.same_length)
 
 pub put_column-requires-clause-long : goal.put_column-requires-clause-long
 put_column-requires-clause-long g c =
-    λ r h. rows-long c.args.block c.args.items.now 0 c.args.rows.now r (c.args.block.from + r * c.args.block.width) c.loop-col.col c.requires.rows h
-    (ap (λ n. c.args.block.from + n * c.args.block.width) (omega arith))
-    (omega (arith, c.requires.fits.inside r (c.args.block.cols - 1) (omega (arith, h, c.requires.count)) (omega arith))) c.loop-col-test.true
+    λ r h. row-long c.args.block c.args.items.now _ _ c.rows_of-rows.ensures.rows r c.loop-col.col (omega (arith, h, c.requires.rows)) c.loop-col-test.true
+    (omega (arith, c.requires.fits.inside r (c.args.block.cols - 1) (omega (arith, h, c.requires.rows)) (omega arith)))
 
 pub loop-col-preserved : goal.loop-col-preserved
 loop-col-preserved g c =
     let col : ℕ = c.loop-col.col in
-    let at : ℕ = c.args.block.to + col * c.args.block.height in
-    let n : ℕ = at + length c.args.rows.now - at in
-    let rows : n ≡ c.args.block.rows = omega (arith, c.requires.count) in
-    IsBlockPut-column _ _ _ c.requires.fits at n col _ _ _ _ refl (omega (arith, rows, c.requires.some)) rows c.loop-col-test.true refl c.loop-col.invariant
+    IsBlockPut-column _ _ _ c.requires.fits _ _ col _ _ _ _ refl (omega (arith, c.requires.rows, c.requires.some)) (omega (arith, c.requires.rows)) c.loop-col-test.true refl c.loop-col.invariant
     (c.put_column.ensures.same_length ∙ omega arith)
-    (λ r h. rows-item c.args.block c.args.items.now 0 c.args.rows.now r (c.args.block.from + r * c.args.block.width) col r _ c.requires.rows (omega (arith, h, c.requires.count))
-    (ap (λ n. c.args.block.from + n * c.args.block.width) (omega arith)) c.loop-col-test.true
-    (c.put_column.ensures.put r (omega (arith, h, c.requires.count))))
+    (λ r h. row-item c.args.block c.args.items.now _ _ c.rows_of-rows.ensures.rows r col h c.loop-col-test.true _ (omega (arith, h, c.requires.rows, c.requires.most, c.rows_of-rows.ensures.len))
+    (c.put_column.ensures.put r (omega (arith, h, c.requires.rows))))
 
 pub returns : goal.returns
 returns g c = let end : c.loop-col.col ≡ c.args.block.cols = omega arith in rw end at c.loop-col.invariant
