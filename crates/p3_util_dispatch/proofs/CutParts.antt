@@ -1,13 +1,13 @@
 -- A length that is cut into parts: where each part begins, the regions of a matrix that the cut
 -- makes, and the numbers of pairs of parts.
-use Rattle.std.proofs.Common.{◌≡◌, ℕ, suc, ◌+◌, ◌-◌, ◌*◌, ◌/◌, ◌%◌, ◌^◌, ◌<◌, ◌≤◌, Bool, true, false, if◌then◌else◌, min, max, nat_le, refl, ap, sym, ◌∙◌, inl, inr, arith}
+use Rattle.std.proofs.Common.{◌≡◌, ℕ, suc, ◌+◌, ◌-◌, ◌*◌, ◌/◌, ◌%◌, ◌^◌, ◌<◌, ◌≤◌, Bool, true, false, if◌then◌else◌, min, max, nat_le, refl, ap, ◌∙◌, inl, inr, arith}
 use Rattle.std.specs.Int.{div_ceil}
 use Rattle.std.proofs.lemmas.Bool.{cases_lt, false_from_ne_true, le-leb, leb-true}
 use Rattle.std.proofs.lemmas.Grind.{div_ceil_times}
 use Rattle.std.proofs.lemmas.Nat.{div-add-mod', mod_below, same_from_place}
-use Rattle.std.proofs.Math.Nat.{lt_of_mul-lt-mul_right, mod-eq_of_lt, mod-eq-sub-mod, mul-le-mul, mul-le-mul_left, mul-le-mul_right, mul-mod_left, mul_assoc, mul_comm, pos_of_ne-zero, zero-mul}
+use Rattle.std.proofs.Math.Nat.{lt_of_mul-lt-mul_right, mod-eq_of_lt, mod-eq-sub-mod, mul-le-mul, mul-le-mul_left, mul-le-mul_right, mul-mod_left, pos_of_ne-zero}
 use Rattle.p3_util_dispatch.specs.Parts.{number_of_pair, pairs_of, part_of_matrix, parts_in, start_of}
-use Rattle.p3_util_kernels.specs.Region.{LiesInMatrix, items_of}
+use Rattle.p3_util_kernels.specs.Region.{LiesInMatrix}
 
 -- a part begins below the length, and there are no more parts than the length has numbers
 pub start-below : (len part_len : ℕ) → 0 < part_len → (k : ℕ) → k < parts_in len part_len → k * part_len < len
@@ -110,28 +110,6 @@ part-inside width height true len part_len k side =
     record { rows_in_order = omega arith; rows_inside = omega arith; cols_in_order = omega arith; cols_inside = omega arith }
 part-inside width height false len part_len k side =
     record { rows_in_order = omega arith; rows_inside = omega arith; cols_in_order = omega arith; cols_inside = omega arith }
-
--- Each part of the columns fills a run of cells. The run of part k begins after k runs that are as long as the first one.
-pub runs_start : (width height : ℕ) (by_rows : Bool) (len part_len k : ℕ) → by_rows ≡ false → 0 < part_len → k < parts_in len part_len
-    → start_of len part_len k * height ≡ k * items_of (part_of_matrix width height by_rows len part_len 0)
-runs_start width height by_rows len part_len k columns some below =
-    let inside : k * part_len < len = start-below len part_len some k below in
-    rw columns (
-    elim (cases_lt 0 k) [
-      | inl later ↦
-          let one : 1 * part_len ≤ k * part_len = mul-le-mul_right part_len later in
-          let start : start_of len part_len k ≡ k * part_len = omega (arith, inside) in
-          let first : start_of len part_len 1 - start_of len part_len 0 ≡ part_len = omega (arith, inside, one) in
-          let rows : height - 0 ≡ height = omega arith in
-          let items : items_of (part_of_matrix width height false len part_len 0) ≡ height * part_len =
-          ap (λ n. n * (start_of len part_len 1 - start_of len part_len 0)) rows ∙ ap (λ n. height * n) first in
-          ap (λ n. n * height) start ∙ mul_assoc k part_len height ∙ ap (λ n. k * n) (mul_comm part_len height ∙ sym items)
-      | inr none ↦
-          let zero : k ≡ 0 = omega (arith, none) in
-          let start : start_of len part_len 0 ≡ 0 = omega arith in
-          rw zero (ap (λ n. n * height) start ∙ zero-mul height ∙ sym (zero-mul (items_of (part_of_matrix width height false len part_len 0))))
-    ]
-    )
 
 -- the number of a pair, counted from the last pair
 abbrev rank : (n i j : ℕ) → ℕ

@@ -1,11 +1,7 @@
--- Rows of bytes, for `src/bytes.rt`.
+-- Rows of bytes, for `src/parts/reversal.rt`.
 use Rattle.std.proofs.Common.{ℕ, ◌≡◌, ◌∙◌, ◌*◌, ◌/◌, ◌%◌, ◌^◌, ◌<◌, ap, inl, refl, sym, div-add-mod', arith}
-use Rattle.std.proofs.Math.Nat.{le-mul_of_pos_right, mul-div_cancel_left, mul-mod_left, mul_assoc, mul_comm, mul_right_comm, pos_of_ne-zero}
+use Rattle.std.proofs.Math.Nat.{le-mul_of_pos_right, mul-div_cancel_left, mul_assoc, mul_comm, mul_right_comm, pos_of_ne-zero}
 use Rattle.p3_util_kernels.specs.Reversal.{FitsRows}
-
--- the items of a row have all of its bytes
-pub items_in_row : (row size : ℕ) → ((width : ℕ) × (row ≡ width * size)) → row % size ≡ 0
-items_in_row row size (width, e) = ap (λ n. n % size) e ∙ mul-mod_left width size
 
 -- a number is its quotient by a divisor, times the divisor
 pub places_whole : (n k : ℕ) → n % k ≡ 0 → n / k * k ≡ n
@@ -41,14 +37,3 @@ list_whole len width size bytes (rows, power, e) some whole =
 -- a list without bytes has no rows
 pub no_rows : FitsRows 0 0
 no_rows = (0, inl refl, refl)
-
--- the rows of a list that is one part, in bytes
-pub whole_rows : (all place width : ℕ) → all / place * place ≡ all → FitsRows (all / place) width → FitsRows all (width * place)
-whole_rows all place width whole (rows, power, e) = (rows, power, sym whole ∙ ap (λ n. n * place) e ∙ mul_right_comm width rows place)
-
--- and the bytes of a row, which are not more than those of the list
-pub whole_fits : (all place len width : ℕ) → all / place * place ≡ all → len ≡ all / place → FitsRows len width → 0 < len → all < 2 ^ 64 → width * place < 2 ^ 64
-whole_fits all place len width whole places (rows, power, e) some fits =
-    let one : 0 < rows = pos_of_ne-zero (λ none. omega (arith, some, e ∙ ap (λ r. width * r) none)) in
-    let all_is : all ≡ width * place * rows = sym whole ∙ ap (λ n. n * place) (sym places ∙ e) ∙ mul_right_comm width rows place in
-    omega (arith, fits, all_is, le-mul_of_pos_right (width * place) one)

@@ -1,6 +1,5 @@
 pub mod Interleaved
 pub mod Lines
-pub mod PartWork
 pub mod Parts
 pub mod Patches
 pub mod PlacesOfParts

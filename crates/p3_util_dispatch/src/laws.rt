@@ -37,8 +37,7 @@ ghost use Rattle.p3_util_kernels.specs.Transpose.{IsTranspose};
 
 use crate::calls::Output;
 use crate::choice::Limits;
-use crate::part::{reverse_part, transpose_part};
-use crate::parts::{Part, ReversalPlan, TransposePlan};
+use crate::parts::{Part, ReversalPlan, TransposePlan, reverse_part, transpose_part};
 use p3_util_fast::bulk::{Ahead, Blocked, Tiled};
 use p3_util_kernels::places::{Cells, Places};
 

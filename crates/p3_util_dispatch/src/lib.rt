@@ -2,10 +2,8 @@
 //! parts, for threads. No call in Rattle uses this: a call in Rattle knows nothing of the size of an item.
 #![tactic(auto)]
 
-pub(crate) mod bytes;
 pub(crate) mod calls;
 pub(crate) mod choice;
 mod laws;
 pub(crate) mod lines;
-pub(crate) mod part;
 pub(crate) mod parts;

@@ -17,19 +17,17 @@ ghost use Rattle.p3_util_kernels.specs.Reversal.{FitsRows};
 
 mod asked;
 pub(crate) mod lists;
-pub(crate) mod numbers;
 mod reversal;
 mod transpose;
 
 pub(crate) use asked::{one_part_items, ranges_if_cut};
-pub(crate) use lists::{PartToRun, PartsToRun, Shared};
-pub(crate) use numbers::Part;
+pub(crate) use lists::{Part, PartToRun, PartsToRun, Plan, Shared};
 use p3_util_fast::grid::TILE;
 use p3_util_fast::rows::RowDigits;
 use p3_util_kernels::bits::pow2;
 use p3_util_kernels::transpose::Region;
-pub(crate) use reversal::{ReversalPlan, Work};
-pub(crate) use transpose::TransposePlan;
+pub(crate) use reversal::{ReversalPlan, reverse_part};
+pub(crate) use transpose::{TransposePlan, transpose_part};
 
 /// The numbers below `len`, cut into parts of `part_len` consecutive numbers. The last part may
 /// have fewer.

@@ -14,13 +14,9 @@ pub(crate) mod rows;
 pub(crate) mod strips;
 pub(crate) mod ways;
 
-#[cfg(target_pointer_width = "64")]
-pub(crate) mod bytes;
 pub(crate) mod calls;
 pub(crate) mod choice;
 pub(crate) mod lines;
-#[cfg(target_pointer_width = "64")]
-pub(crate) mod part;
 #[cfg(target_pointer_width = "64")]
 pub(crate) mod parts;
 

@@ -13,7 +13,6 @@
 
 mod asked;
 pub(crate) mod lists;
-pub(crate) mod numbers;
 mod reversal;
 mod transpose;
 
@@ -22,10 +21,9 @@ use crate::kernels::grid::TILE;
 use crate::kernels::rows::RowDigits;
 use crate::kernels::transpose::Region;
 pub(crate) use asked::{one_part_items, ranges_if_cut};
-pub(crate) use lists::{PartToRun, PartsToRun, Shared};
-pub(crate) use numbers::Part;
-pub(crate) use reversal::{ReversalPlan, Work};
-pub(crate) use transpose::TransposePlan;
+pub(crate) use lists::{Part, PartToRun, PartsToRun, Plan, Shared};
+pub(crate) use reversal::{ReversalPlan, reverse_part};
+pub(crate) use transpose::{TransposePlan, transpose_part};
 
 /// The numbers below `len`, cut into parts of `part_len` consecutive numbers. The last part may
 /// have fewer.

@@ -6,7 +6,7 @@ pub(super) use crate::kernels::calls::transpose_whole;
 use crate::kernels::rows;
 use crate::width::Index;
 #[cfg(target_pointer_width = "64")]
-pub(super) use in_parts::{Sizes, reverse_part, transpose_part};
+pub(super) use in_parts::{bytes_of_place, reverse_part, transpose_part};
 
 /// Reverses the order of items by index bits.
 #[inline(never)]
@@ -22,23 +22,16 @@ pub(super) fn reverse_rows(items: impl Tiled, row_width: Index) {
 
 #[cfg(target_pointer_width = "64")]
 mod in_parts {
-    use crate::kernels::bytes::Instances;
-    pub(in crate::slices) use crate::kernels::part::transpose_part;
-    use crate::kernels::parts::{Part, ReversalPlan};
+    pub(in crate::slices) use crate::kernels::parts::transpose_part;
+    use crate::kernels::parts::{self, Part, ReversalPlan};
 
     /// Makes the exchanges of a part, whose places are the items.
     pub(in crate::slices) fn reverse_part(items: impl super::Tiled, _: usize, part: Part<ReversalPlan>) {
-        let _ = crate::kernels::part::reverse_part(items, part);
+        let _ = parts::reverse_part(items, part);
     }
 
-    /// No size.
-    pub(in crate::slices) struct Sizes;
-
-    impl Instances for Sizes {
-        const MOVES_BYTES: bool = false;
-
-        fn has(_: usize) -> bool {
-            false
-        }
+    /// An item is a place.
+    pub(in crate::slices) fn bytes_of_place(size: usize, _: usize) -> usize {
+        size
     }
 }

@@ -9,10 +9,11 @@
 
 use super::holders::{Bytes, Items, MOVES_BYTES, SliceItems, SliceSource, USES_REGISTERS, Vector};
 use crate::kernels::bulk::Tiled;
-use crate::kernels::bytes::{self, ByteInstances, Instances, is_run};
-use crate::kernels::parts::{Part, ReversalPlan, RowPairs, TransposePlan};
+use crate::kernels::calls;
+use crate::kernels::choice::LONG_BYTES;
+use crate::kernels::parts::{self, Part, ReversalPlan, TransposePlan};
 use crate::kernels::registers::{Pair, Two};
-use crate::kernels::{calls, part, rows};
+use crate::kernels::rows;
 
 /// `by_size!(size)` is whether the size is in this table. `by_size!(size, holder = list => call, _ => other)` is `call` if
 /// it is, and otherwise `other`. In `call`, `holder` is the holder of the list as items of this size.
@@ -40,9 +41,14 @@ macro_rules! by_size {
     };
 }
 
+/// Whether an item of `size` bytes is exchanged as a run of bytes.
+const fn is_run(size: usize) -> bool {
+    MOVES_BYTES && LONG_BYTES <= size
+}
+
 #[inline(always)]
 pub(super) fn reverse<F>(items: SliceItems<F>) {
-    if const { is_run(size_of::<F>(), MOVES_BYTES) } {
+    if const { is_run(size_of::<F>()) } {
         return reverse_rows(items, 1);
     }
     by_size!(
@@ -55,7 +61,7 @@ pub(super) fn reverse<F>(items: SliceItems<F>) {
 #[inline(always)]
 pub(super) fn reverse_rows<F>(items: SliceItems<F>, row_width: usize) {
     if MOVES_BYTES {
-        items.in_bytes().reverse(row_width * size_of::<F>());
+        reverse_bytes(items.in_bytes(), row_width * size_of::<F>());
     } else {
         reverse_rows_of_holder(items, row_width);
     }
@@ -67,11 +73,24 @@ fn reverse_holder(items: impl Tiled) {
     let _ = rows::reverse_rows(items, 1);
 }
 
-/// Reverses the order of rows by index bits. Not inlined, or [`ByteInstances::reverse`] would save registers even where it does
-/// not run this.
+/// Reverses the order of rows by index bits. Not inlined, or [`reverse_bytes`] would save registers even where it does not run
+/// this.
 #[inline(never)]
 fn reverse_rows_of_holder(items: impl Tiled, row_width: usize) {
     let _ = rows::reverse_rows(items, row_width);
+}
+
+/// A list of items or rows that are taken as bytes.
+type ByteList<'a> = SliceItems<'a, Bytes<1>>;
+
+/// Reverses the order of rows of `row` bytes each by index bits.
+#[inline(never)]
+fn reverse_bytes(list: ByteList, row: usize) {
+    by_size!(
+        row,
+        holder = list => reverse_holder(holder),
+        _ => reverse_rows_of_holder(list, row)
+    );
 }
 
 #[inline(always)]
@@ -88,18 +107,20 @@ pub(super) fn transpose_part<T: Copy>(cells: SliceItems<T>, source: SliceSource<
     if const { by_size!(size_of::<T>()) } {
         transpose_part_of_bytes(cells.in_bytes(), source.in_bytes(), part, size_of::<T>());
     } else {
-        let _ = part::transpose_part(cells, source, part);
+        let _ = parts::transpose_part(cells, source, part);
     }
 }
 
-/// The sizes for which this file has instances.
-pub(super) struct Sizes;
-
-impl Instances for Sizes {
-    const MOVES_BYTES: bool = MOVES_BYTES;
-
-    fn has(size: usize) -> bool {
-        by_size!(size)
+/// How many bytes a place has in a reversal of rows of `row` bytes each, of items of `size` bytes. If there is an instance for this
+/// size, a row is a place. Otherwise an item is one if a row has only this item and the item is not long. All other rows are runs
+/// of bytes. If items are not taken as bytes, each is a place.
+pub(super) fn bytes_of_place(size: usize, row: usize) -> usize {
+    if by_size!(row) {
+        row
+    } else if !MOVES_BYTES || row == size && !is_run(size) {
+        size
+    } else {
+        1
     }
 }
 
@@ -109,46 +130,24 @@ pub(super) fn reverse_part<F>(items: SliceItems<F>, bytes: usize, part: Part<Rev
     if const { by_size!(size_of::<F>()) } || bytes != size_of::<F>() {
         reverse_part_of_bytes(items.in_bytes(), bytes, part);
     } else {
-        let _ = part::reverse_part(items, part);
+        let _ = parts::reverse_part(items, part);
     }
 }
 
-/// A list of items or rows that are taken as bytes.
-type ByteList<'a> = SliceItems<'a, Bytes<1>>;
-
-impl ByteInstances for ByteList<'_> {
-    type Done = ();
-
-    #[inline(never)]
-    fn reverse(self, row: usize) {
-        by_size!(
-            row,
-            holder = self => reverse_holder(holder),
-            _ => reverse_rows_of_holder(self, row)
-        );
-    }
-
-    #[inline(always)]
-    fn exchange(self, place: usize, patch: Part<RowPairs>) {
-        by_size!(
-            place,
-            holder = self => _ = patch.exchange(holder),
-            _ => unreachable!("these items have kernels of their type")
-        );
-    }
-}
-
-/// Makes the exchanges of a part, whose places have so many `bytes`.
 #[inline(never)]
 fn reverse_part_of_bytes(list: ByteList, bytes: usize, part: Part<ReversalPlan>) {
-    bytes::reverse_part(list, bytes, part);
+    by_size!(
+        bytes,
+        holder = list => _ = parts::reverse_part(holder, part),
+        _ => unreachable!("these items have kernels of their type")
+    );
 }
 
 #[inline(never)]
 fn transpose_part_of_bytes(cells: ByteList, source: SliceSource<Bytes<1>>, part: Part<TransposePlan>, size: usize) {
     by_size!(
         size,
-        holder = cells => _ = part::transpose_part(holder, source.in_bytes(), part),
+        holder = cells => _ = parts::transpose_part(holder, source.in_bytes(), part),
         _ => unreachable!("this size has no kernels here")
     );
 }

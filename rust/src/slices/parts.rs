@@ -25,8 +25,7 @@
 use core::fmt;
 
 use super::{SliceItems, SliceSource, instances, refuse_rows};
-use crate::kernels::bytes::plan_in_bytes;
-use crate::kernels::parts::{PartToRun, PartsToRun, ReversalPlan, TransposePlan, one_part_items, ranges_if_cut};
+use crate::kernels::parts::{PartToRun, PartsToRun, Plan, ReversalPlan, TransposePlan, one_part_items, ranges_if_cut};
 use crate::kernels::reverse::fits_rows;
 use crate::kernels::transpose::fits_matrix;
 
@@ -64,9 +63,11 @@ pub struct ReversalParts<'a, F>(PartsToRun<SliceItems<'a, F>, ReversalPlan, usiz
 #[must_use = "a part that is not run leaves the list neither as it was nor reversed"]
 pub struct ReversalPart<'a, F>(PartToRun<SliceItems<'a, F>, ReversalPlan, usize>);
 
-/// Does what [`plan_in_bytes`] does, for the instances of this build. A user's crate has no code of it, since it is not generic.
+/// The plan for a list of `len` items of `size` bytes, in places of so many bytes as this build has instances for. A user's crate
+/// has no code of it, since it is not generic.
 fn plan_of(len: usize, size: usize, row_width: usize, ranges: Option<usize>) -> (usize, ReversalPlan) {
-    plan_in_bytes::<instances::Sizes>(len, size, row_width, ranges)
+    let place = instances::bytes_of_place(size, row_width.wrapping_mul(size));
+    ReversalPlan::in_places(len, size, row_width, place, ranges)
 }
 
 /// Cuts [`transpose::transpose`](crate::transpose::transpose) into at most `parts` parts, 0 for 1.
@@ -98,7 +99,12 @@ pub fn transpose<'a, T: Copy + Send + Sync>(
     }
     let height = if size_of::<T>() == 0 { 0 } else { height };
     let plan = TransposePlan::new(width, height, parts, cfg!(not(feature = "checked")));
-    let cells = SliceItems::in_shares(output, plan.cells_of_region());
+    // With the feature `checked`, a share is the columns of a part, and those of the last part may be fewer.
+    let share = match plan.count() {
+        1.. if cfg!(feature = "checked") => plan.region(0).cols() * height,
+        _ => 0,
+    };
+    let cells = SliceItems::in_shares(output, share);
     TransposeParts(PartsToRun::of(cells, plan, input))
 }
 

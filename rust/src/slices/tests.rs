@@ -12,7 +12,6 @@ use std::vec::Vec;
 
 use super::holders::{SliceItems, SliceSource};
 use crate::kernels::bulk::{Block, Blocked, Tiled};
-use crate::kernels::bytes::plan_in_bytes;
 use crate::kernels::places::{Cells, Places, Source};
 
 #[cfg(not(feature = "checked"))]
@@ -300,7 +299,7 @@ fn shares() {
 #[test]
 fn places_of_parts() {
     fn place<const N: usize>(row_width: usize) -> usize {
-        plan_in_bytes::<super::instances::Sizes>(row_width, N, row_width, None).0
+        super::instances::bytes_of_place(N, N * row_width)
     }
     let moves_bytes = cfg!(all(any(target_arch = "x86_64", target_arch = "aarch64"), not(unaligned_is_slow)));
     if cfg!(feature = "checked") || !moves_bytes {

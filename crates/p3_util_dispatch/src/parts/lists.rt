@@ -1,11 +1,28 @@
-//! The list of a call, together with the parts that are left of it.
+//! The parts of a call, each of which is handed out once, with its share of the list.
 
 ghost use Rattle.std.specs.Prelude.{◌≡◌, ℕ, ◌+◌, ◌*◌, ◌/◌, ◌^◌, ◌<◌, ◌≤◌, IfNone, IfSome, length};
 ghost use Rattle.p3_util_dispatch.specs.Parts.{parts_in};
 ghost use Rattle.p3_util_dispatch.specs.Plans.{IsReversalPlan};
 
-use crate::parts::numbers::{Part, PartsLeft, Plan};
 use crate::parts::{ReversalPlan, TransposePlan};
+
+/// How a call is cut into parts. They have the numbers below [`count`](Plan::count).
+pub(crate) trait Plan: Copy {
+    ghost parts: { Self → ℕ };
+
+    /// The number of parts.
+    fn count(self) -> usize
+        ensures { result ≡ parts self };
+}
+
+/// A part of a call. Only [`PartsToRun::hand_out`] makes one, there is no copy of it, and it does not show its plan. So no
+/// caller can hand out the parts of its plan again.
+#[derive(Drop)]
+pub(crate) struct Part<P: Plan> {
+    pub(super) plan: P,
+    pub(super) number: usize,
+    pub ghost below: { number < P.parts plan },
+}
 
 /// A list that the parts of a call share. A place has the same index in a share as in the list.
 pub(crate) trait Shared {
@@ -43,14 +60,18 @@ impl Given<ReversalPlan> for usize {
         × IsReversalPlan (bytes / place) plan };
 }
 
-/// The list of a call and the parts that are left of it. It keeps the list, and there is no copy of it. So each part is handed
-/// out once, and gets a share of the list that the plan is for.
+/// The list of a call and the parts that are left of it: those with the numbers from `next` on. It keeps the list, and there is
+/// no copy of it. So each part is handed out once, and gets a share of the list that the plan is for.
 #[derive(Drop)]
 pub(crate) struct PartsToRun<L: Shared, P: Plan, I: Given<P>> {
     list: L,
-    left: PartsLeft<P>,
+    plan: P,
+    next: usize,
+    end: usize,
     given: I,
-    pub ghost fits: { ∥ I.is_for left.plan given (L.len list) (L.bytes list) ∥₁ },
+    pub ghost in_order: { next ≤ end },
+    pub ghost inside: { end ≤ P.parts plan },
+    pub ghost fits: { ∥ I.is_for plan given (L.len list) (L.bytes list) ∥₁ },
 }
 
 /// A part of a call, and its share of the list that the plan is for.
@@ -67,44 +88,52 @@ impl<L: Shared, P: Plan, I: Given<P>> PartsToRun<L, P, I> {
     pub(crate) fn of(list: L, plan: P, given: I) -> Self
         requires { I.is_for plan given (L.len list) (L.bytes list) }
         ensures list { result.list ≡ list }
-        ensures plan { result.left.plan ≡ plan }
-        ensures first { result.left.next ≡ 0 }
-        ensures last { result.left.end ≡ P.parts plan }
+        ensures plan { result.plan ≡ plan }
+        ensures first { result.next ≡ 0 }
+        ensures last { result.end ≡ P.parts plan }
         ensures given { result.given ≡ given }
     {
         PartsToRun {
             list,
-            left: PartsLeft::of(plan),
+            plan,
+            next: 0,
+            end: plan.count(),
             given,
         }
     }
 
     /// The number of parts that are left.
     pub(crate) fn count(&self) -> usize
-        ensures { self.now.left.next + result ≡ self.now.left.end }
+        ensures { self.now.next + result ≡ self.now.end }
     {
-        self.left.count()
+        self.end - self.next
     }
 
     /// Hands out the next part. Each call that returns a part returns the one with the next number.
     pub(crate) fn hand_out(&mut self) -> Option<PartToRun<L, P, I>>
-        ensures plan { self.new.left.plan ≡ self.old.left.plan }
-        ensures last { self.new.left.end ≡ self.old.left.end }
+        ensures plan { self.new.plan ≡ self.old.plan }
+        ensures last { self.new.end ≡ self.old.end }
         ensures given { self.new.given ≡ self.old.given }
         ensures len { L.len self.new.list ≡ L.len self.old.list }
         ensures bytes { L.bytes self.new.list ≡ L.bytes self.old.list }
         ensures share { IfSome result (λ next. (L.len next.share ≡ L.len self.old.list)
             × (L.bytes next.share ≡ L.bytes self.old.list)) }
-        ensures some { IfSome result (λ next. (next.part.plan ≡ self.old.left.plan)
-            × (next.part.number ≡ self.old.left.next) × (next.given ≡ self.old.given)
-            × (self.new.left.next ≡ self.old.left.next + 1)) }
-        ensures none { IfNone result ((self.old.left.next ≡ self.old.left.end)
-            × (self.new.left.next ≡ self.old.left.next)) }
+        ensures some { IfSome result (λ next. (next.part.plan ≡ self.old.plan)
+            × (next.part.number ≡ self.old.next) × (next.given ≡ self.old.given)
+            × (self.new.next ≡ self.old.next + 1)) }
+        ensures none { IfNone result ((self.old.next ≡ self.old.end) × (self.new.next ≡ self.old.next)) }
     {
-        let part = self.left.hand_out()?;
+        if self.next == self.end {
+            return None;
+        }
+        let number = self.next;
+        self.next += 1;
         Some(PartToRun {
             share: self.list.share(),
-            part,
+            part: Part {
+                plan: self.plan,
+                number,
+            },
             given: self.given,
         })
     }
@@ -116,7 +145,7 @@ impl<L: Shared, P: Plan, I: Given<P>> PartToRun<L, P, I> {
         ensures number { result ≡ self.now.part.number }
         ensures below { result < P.parts self.now.part.plan }
     {
-        self.part.number()
+        self.part.number
     }
 
     /// The share of the list, what the part is given, and the part itself.

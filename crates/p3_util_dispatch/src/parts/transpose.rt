@@ -4,10 +4,11 @@ ghost use Rattle.std.specs.Prelude.{◌≡◌, ℕ, ◌+◌, ◌*◌, ◌%◌, �
 ghost use Rattle.p3_util_dispatch.specs.Parts.{IsLeastPartLen, part_of_matrix, parts_in, start_of};
 ghost use Rattle.p3_util_kernels.specs.Region.{IsRegionTransposed, LiesInMatrix, items_of};
 
+use crate::calls::{Output, transpose_region};
 use crate::parts::Cut;
-use crate::parts::numbers::{Part, Plan};
+use crate::parts::lists::{Part, Plan};
+use p3_util_fast::bulk::Ahead;
 use p3_util_fast::strips::UNIT;
-use p3_util_kernels::places::Source;
 use p3_util_kernels::transpose::{Matrix, Region};
 
 /// The transpose of a matrix of `height` rows of `width` items, cut into regions of neighbouring
@@ -83,33 +84,6 @@ impl TransposePlan {
             }
         }
     }
-
-    /// The number of items of region `number`. If the columns are cut, the items of a region fill
-    /// consecutive cells, right after the cells of the region before it.
-    pub(crate) fn items(self, number: usize) -> usize
-        requires { number < parts_in self.cut.len self.cut.part_len }
-        ensures { result ≡ items_of (part_of_matrix self.width self.height self.by_rows self.cut.len
-            self.cut.part_len number) }
-    {
-        let region = self.region(number);
-        region.rows() * region.cols()
-    }
-
-    /// The number of items of the first region, or 0 if there is none. If the columns are cut, each region fills so many cells,
-    /// and the last one may fill fewer. They are next to each other, and right after those of the region before it.
-    pub(crate) fn cells_of_region(self) -> usize
-        ensures starts { self.by_rows ≡ false → (k : ℕ) → k < parts_in self.cut.len self.cut.part_len
-            → start_of self.cut.len self.cut.part_len k * self.height ≡ k * result }
-        ensures number { 0 < parts_in self.cut.len self.cut.part_len → result ≡ items_of (part_of_matrix self.width
-            self.height self.by_rows self.cut.len self.cut.part_len 0) }
-        ensures none { parts_in self.cut.len self.cut.part_len ≡ 0 → result ≡ 0 }
-    {
-        if self.cut.count() == 0 {
-            0
-        } else {
-            self.items(0)
-        }
-    }
 }
 
 impl Plan for TransposePlan {
@@ -121,22 +95,24 @@ impl Plan for TransposePlan {
     }
 }
 
-impl Part<TransposePlan> {
-    /// The region of the part.
-    pub(crate) fn region(&self) -> Region
-        ensures region { let plan = self.now.plan in result ≡ part_of_matrix plan.width plan.height plan.by_rows
-            plan.cut.len plan.cut.part_len self.now.number }
-        ensures inside { LiesInMatrix result self.now.plan.width self.now.plan.height }
-    {
-        self.plan.region(self.number)
-    }
-
-    /// The matrix of the call, with its items.
-    pub(crate) fn matrix<R: Source + Copy>(&self, source: R) -> Matrix<R>
-        ensures source { result.source ≡ source }
-        ensures width { result.width ≡ self.now.plan.width }
-        ensures height { result.height ≡ self.now.plan.height }
-    {
-        Matrix::new(source, self.plan.width, self.plan.height)
-    }
+/// Puts the region of a part.
+#[inline(never)]
+pub(crate) fn transpose_part<M: Output, R: Ahead<Item = M::Item> + Copy>(
+    cells: M,
+    source: R,
+    part: Part<TransposePlan>,
+) -> M
+    requires input_fits { length (R.items source) ≡ part.plan.width * part.plan.height }
+    requires output_fits { length (M.items cells) ≡ part.plan.width * part.plan.height }
+    ensures transposed { let plan = part.plan in
+        IsRegionTransposed (part_of_matrix plan.width plan.height plan.by_rows plan.cut.len plan.cut.part_len
+        part.number) plan.width plan.height (R.items source) (M.items cells) (M.items result) }
+    ensures holder { let plan = part.plan in
+        M.same_holder (items_of (part_of_matrix plan.width plan.height plan.by_rows plan.cut.len plan.cut.part_len
+        part.number)) cells result }
+{
+    let Part { plan, number } = part;
+    let matrix = Matrix::new(source, plan.width, plan.height);
+    let region = plan.region(number);
+    transpose_region(cells, matrix, region)
 }

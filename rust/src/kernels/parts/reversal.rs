@@ -1,11 +1,12 @@
 // rust/erase writes this file from crates/p3_util_dispatch/src/parts/reversal.rt. Make changes there.
-//! The parts that a reversal is cut into.
+//! The parts that a reversal is cut into, and what each of them does.
 
 use crate::kernels::bits::pow2;
 use crate::kernels::bulk::Tiled;
 use crate::kernels::grid::{exchange_quadrants, exchange_region};
 use crate::kernels::parts::RowPairs;
-use crate::kernels::parts::numbers::{Part, Plan};
+use crate::kernels::parts::lists::{Part, Plan};
+use crate::kernels::rows::reverse_rows;
 
 /// How the reversal of rows is cut.
 #[derive(Clone, Copy)]
@@ -26,6 +27,29 @@ impl ReversalPlan {
             _ => ReversalPlan::Whole(len, row_width),
         }
     }
+
+    /// The plan for a list of `len` items of `size` bytes, `row_width` in each row, which is taken as a list of places. Also
+    /// returns how many bytes each place has: `place` if all rows have whole places of so many bytes, and otherwise 1.
+    pub(crate) fn in_places(
+        len: usize,
+        size: usize,
+        row_width: usize,
+        place: usize,
+        parts: Option<usize>,
+    ) -> (usize, ReversalPlan) {
+        let all = len * size;
+        if all == 0 {
+            return (1, ReversalPlan::new(0, 0, parts));
+        }
+        let row = row_width * size;
+        let bytes = whole_places(row, place);
+        (bytes, ReversalPlan::new(all / bytes, row / bytes, parts))
+    }
+}
+
+/// How many bytes a place has: `place` if a row of `row` bytes has whole places of so many, and otherwise 1.
+fn whole_places(row: usize, place: usize) -> usize {
+    if place > 0 && row % place == 0 { place } else { 1 }
 }
 
 impl Plan for ReversalPlan {
@@ -38,42 +62,30 @@ impl Plan for ReversalPlan {
     }
 }
 
-impl Plan for RowPairs {
+impl RowPairs {
     /// The number of patches that are on the diagonal of their grid or above it.
     fn count(self) -> usize {
         self.cut.pairs() * pow2(self.rows.digits % 2)
     }
-}
 
-/// What a part of a reversal has to do.
-pub(crate) enum Work {
-    /// The whole call. The number is that of the items of each row.
-    Rows(usize),
-    /// The pairs of one patch.
-    Patch(Part<RowPairs>),
-}
-
-impl Part<ReversalPlan> {
-    /// What the part has to do.
-    pub(crate) fn work(self) -> Work {
-        let Part { plan, number } = self;
-        match plan {
-            ReversalPlan::Whole(_, row_width) => Work::Rows(row_width),
-            ReversalPlan::Patches(pairs) => Work::Patch(Part { plan: pairs, number }),
-        }
-    }
-}
-
-impl Part<RowPairs> {
-    /// Exchanges the two rows of each pair in this patch.
-    pub(crate) fn exchange<M: Tiled>(self, m: M) -> M {
-        let Part { plan, number } = self;
-        let (middle, region) = plan.patch(number);
-        let grid = plan.rows.grid(middle);
+    /// Exchanges the two rows of each pair in patch `number`.
+    pub(crate) fn exchange<M: Tiled>(self, number: usize, m: M) -> M {
+        let (middle, region) = self.patch(number);
+        let grid = self.rows.grid(middle);
         if region.row_start == region.col_start {
             exchange_quadrants(m, grid, region.row_start, region.rows())
         } else {
             exchange_region(m, grid, region)
         }
+    }
+}
+
+/// Makes the exchanges of a part.
+pub(crate) fn reverse_part<M: Tiled>(items: M, part: Part<ReversalPlan>) -> M {
+    match part.plan {
+        ReversalPlan::Patches(pairs) => pairs.exchange(part.number, items),
+        // In this arm, the compiler knows that a row is one item.
+        ReversalPlan::Whole(_, 1) => reverse_rows(items, 1),
+        ReversalPlan::Whole(_, row_width) => reverse_rows(items, row_width),
     }
 }

@@ -1,9 +1,10 @@
 // rust/erase writes this file from crates/p3_util_dispatch/src/parts/transpose.rt. Make changes there.
 //! The regions that the transpose of a matrix is cut into.
 
+use crate::kernels::bulk::Ahead;
+use crate::kernels::calls::{Output, transpose_region};
 use crate::kernels::parts::Cut;
-use crate::kernels::parts::numbers::{Part, Plan};
-use crate::kernels::places::Source;
+use crate::kernels::parts::lists::{Part, Plan};
 use crate::kernels::strips::UNIT;
 use crate::kernels::transpose::{Matrix, Region};
 
@@ -42,19 +43,6 @@ impl TransposePlan {
             Region { row_start: 0, row_end: self.height, col_start: from, col_end: to }
         }
     }
-
-    /// The number of items of region `number`. If the columns are cut, the items of a region fill
-    /// consecutive cells, right after the cells of the region before it.
-    pub(crate) fn items(self, number: usize) -> usize {
-        let region = self.region(number);
-        region.rows() * region.cols()
-    }
-
-    /// The number of items of the first region, or 0 if there is none. If the columns are cut, each region fills so many cells,
-    /// and the last one may fill fewer. They are next to each other, and right after those of the region before it.
-    pub(crate) fn cells_of_region(self) -> usize {
-        if self.cut.count() == 0 { 0 } else { self.items(0) }
-    }
 }
 
 impl Plan for TransposePlan {
@@ -64,14 +52,15 @@ impl Plan for TransposePlan {
     }
 }
 
-impl Part<TransposePlan> {
-    /// The region of the part.
-    pub(crate) fn region(&self) -> Region {
-        self.plan.region(self.number)
-    }
-
-    /// The matrix of the call, with its items.
-    pub(crate) fn matrix<R: Source + Copy>(&self, source: R) -> Matrix<R> {
-        Matrix::new(source, self.plan.width, self.plan.height)
-    }
+/// Puts the region of a part.
+#[inline(never)]
+pub(crate) fn transpose_part<M: Output, R: Ahead<Item = M::Item> + Copy>(
+    cells: M,
+    source: R,
+    part: Part<TransposePlan>,
+) -> M {
+    let Part { plan, number } = part;
+    let matrix = Matrix::new(source, plan.width, plan.height);
+    let region = plan.region(number);
+    transpose_region(cells, matrix, region)
 }

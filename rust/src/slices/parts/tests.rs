@@ -5,8 +5,7 @@ use std::vec::Vec;
 
 use super::{one_part_reversal, ranges_if_cut, row_reversal, transpose};
 use crate::kernels::bulk::Tiled;
-use crate::kernels::parts::numbers::{PartsLeft, Plan};
-use crate::kernels::parts::{RowPairs, TransposePlan};
+use crate::kernels::parts::{Plan, RowPairs, TransposePlan};
 use crate::kernels::places::{SliceCells, SlicePlaces, SliceSource};
 use crate::kernels::rows::reverse_rows;
 use crate::kernels::transpose::Matrix;
@@ -36,9 +35,7 @@ fn exchange_by_plan<const N: usize, const WIDTH: usize>(rows: &mut [[[u8; N]; WI
     fn exchange(places: impl Tiled, width: usize, parts: usize, is_cut: bool, number: usize) {
         let len = places.len();
         if is_cut {
-            let mut left = PartsLeft::of(RowPairs::new(len, width, parts));
-            let patch = (0..=number).find_map(|k| left.hand_out().filter(|_| k == number));
-            let _ = patch.unwrap().exchange(places);
+            let _ = RowPairs::new(len, width, parts).exchange(number, places);
         } else {
             let _ = reverse_rows(places, width);
         }

@@ -7,9 +7,7 @@ use std::thread::scope;
 use std::vec::Vec;
 
 use super::super::*;
-use crate::kernels::parts::Shared;
-use crate::kernels::parts::lists::Given;
-use crate::kernels::parts::numbers::Plan;
+use crate::kernels::parts::lists::{Given, Plan, Shared};
 use crate::slices::tests::transposed;
 
 /// `i`, which has `digits` binary digits, with the digits in reversed order.

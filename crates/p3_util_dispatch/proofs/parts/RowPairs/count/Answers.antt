@@ -1,7 +1,7 @@
 -- The number of patches fits in a usize.
 use Rattle.std.proofs.Common.{arith}
 use Rattle.p3_util_dispatch.proofs.PatchesLemmas.{patches-few}
-use Rattle.p3_util_dispatch.proofs.parts.reversal.RowPairsPlan.count.Goals as goal
+use Rattle.p3_util_dispatch.proofs.parts.RowPairs.count.Goals as goal
 
 pub overflow_mul-result : goal.overflow_mul-result
 overflow_mul-result c =

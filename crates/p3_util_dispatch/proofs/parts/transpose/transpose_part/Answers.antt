@@ -1,5 +1,5 @@
 use Rattle.std.proofs.Common.{rules}
-use Rattle.p3_util_dispatch.proofs.part.transpose_part.Goals as goal
+use Rattle.p3_util_dispatch.proofs.parts.transpose.transpose_part.Goals as goal
 
 pub returns-clause-transposed : goal.returns-clause-transposed
 returns-clause-transposed g c = search rules
