@@ -1,22 +1,15 @@
 -- What a write or an exchange in the rows does to the list of all their items.
-use Rattle.std.proofs.Common.{ℕ, zero, suc, ◌≡◌, ◌+◌, ◌-◌, ◌*◌, ◌<◌, ◌≤◌, ◌≢◌, List, [], ◌∷◌, ◌++◌, length, get_or, set, take, drop, refl, sym, ap, ◌∙◌, length-append, get_or-set_other, get_or-set_same, zero-add, add_assoc, ◌^◌, ◌/◌, ◌%◌, inl, inr, max, subst, Some, slice_get, nat_lt, cond, true, false, div-lt_iff_lt-mul, mul-le-mul_right, swap, arith}
-use Rattle.std.proofs.Math.Seq.{take-set-lt}
-use Rattle.std.proofs.lemmas.List.{length-set, set-append_left, set-set, take-set, drop-set-add, drop-set-lt, take-append-drop, get_or-take, take_all, get_or-drop}
+use Rattle.std.proofs.Common.{ℕ, zero, suc, ◌≡◌, ◌+◌, ◌-◌, ◌*◌, ◌<◌, ◌≤◌, List, [], ◌∷◌, ◌++◌, length, get_or, set, take, drop, refl, sym, ap, ap₂, ◌∙◌, length-append, length-drop, zero-add, add_assoc, ◌^◌, ◌/◌, ◌%◌, max, subst, Some, slice_get, nat_lt, cond, true, false, div-lt_iff_lt-mul, mul-le-mul_right, swap, arith}
+use Rattle.std.proofs.lemmas.Grind.{flat_map-append}
+use Rattle.std.proofs.lemmas.List.{length-set, set-append_left, take-append-drop, take_all, length-take-le, take-take, get_or_default, take_more, flat_map_more}
 use Rattle.std.proofs.lemmas.Option.{slice_get-get_or, slice_get_read}
-use Rattle.std.proofs.lemmas.List.Edits.{swap_is}
 use Rattle.std.proofs.lemmas.List.Concat.{get_or-flat_map}
-use Rattle.std.proofs.lemmas.Bool.{cases_lt, le-ltb}
+use Rattle.std.proofs.lemmas.Bool.{le-ltb}
 use Rattle.p3_util.specs.Flat.{IsFlat, countable_items, flat}
-use Rattle.p3_util.proofs.TwoLists.{swap-sym}
-use Rattle.p3_util.proofs.JoinedLists.{set-behind}
-
--- if place i is before place j and its row is not before that of j, both are in one row
-pub one_row : (r c s d n i j : ℕ) → d < n → i ≡ r * n + c → j ≡ s * n + d → i < j → s ≤ r → r ≡ s
-one_row r c s d n i j within at at' order le =
-    elim (cases_lt s r) [
-      | inl before ↦ let later : (s + 1) * n ≤ r * n = mul-le-mul_right n (omega arith) in absurd (omega (arith, later))
-      | inr after ↦ omega arith
-    ]
+use Rattle.p3_util.specs.Pieces.{pieces}
+use Rattle.p3_util.proofs.PiecesLemmas.{pieces-more, pieces-nil}
+use Rattle.p3_util.proofs.TwoLists.{in-front, behind, swap-sym}
+use Rattle.p3_util.proofs.JoinedLists.{set-behind, across}
 
 module _ {A : Type 0} where
   -- where row r begins
@@ -32,20 +25,6 @@ module _ {A : Type 0} where
       let at : start (x ∷ xs) (suc r) + c ≡ length x + (start xs r + c) = rw (length-append x (flat (take r xs))) (add_assoc _ _ _) in
       rw at (ap (λ l. x ++ l) (flat-set xs r c w (omega arith) inside) ∙ sym (set-behind x (flat xs) (length x) (start xs r + c) w refl))
 
-  -- if a row is replaced by one of the same length, no row begins at another place
-  start-set : (rows : List (List A)) (r k : ℕ) (y : List A) → length y ≡ length (get_or rows r []) → start (set rows r y) k ≡ start rows k
-  start-set [] r k y same = refl
-  start-set (x ∷ xs) r zero y same = refl
-  start-set (x ∷ xs) zero (suc k) y same = rw (length-append y (flat (take k xs)), length-append x (flat (take k xs))) (omega (arith, same))
-  start-set (x ∷ xs) (suc r) (suc k) y same = rw (length-append x (flat (take k (set xs r y))), length-append x (flat (take k xs))) (ap (λ n. length x + n) (start-set xs r k y same))
-
-  row-len : (rows : List (List A)) (r s : ℕ) (y : List A) → length y ≡ length (get_or rows r []) → length (get_or (set rows r y) s []) ≡ length (get_or rows s [])
-  row-len [] r s y same = refl
-  row-len (x ∷ xs) zero zero y same = same
-  row-len (x ∷ xs) zero (suc s) y same = refl
-  row-len (x ∷ xs) (suc r) zero y same = refl
-  row-len (x ∷ xs) (suc r) (suc s) y same = row-len xs r s y same
-
   -- an item of a row, found among the items of all rows
   get_or-flat : (rows : List (List A)) (r c : ℕ) (d : A) → r < length rows → c < length (get_or rows r [])
       → get_or (flat rows) (start rows r + c) d ≡ get_or (get_or rows r []) c d
@@ -57,27 +36,6 @@ module _ {A : Type 0} where
   start-below (x ∷ xs) (suc r) c lt inside =
       rw (length-append x (flat xs), length-append x (flat (take r xs))) (omega (arith, start-below xs r c (omega arith) inside))
 
-  -- an item of row r is written and then one of row s, so that the two are exchanged
-  flat-two : (rows : List (List A)) (r c s d : ℕ) (v w any : A) → r < length rows → c < length (get_or rows r []) → s < length rows → d < length (get_or rows s [])
-      → v ≡ get_or (get_or rows s []) d any → w ≡ get_or (get_or rows r []) c any
-      → let rows' = set rows r (set (get_or rows r []) c v) in
-      flat (set rows' s (set (get_or rows' s []) d w)) ≡ swap (flat rows) (start rows r + c) (start rows s + d)
-  flat-two rows r c s d v w any lr ic ls id ev ew =
-      let all = flat rows in
-      let i = start rows r + c in
-      let j = start rows s + d in
-      let row = get_or rows r [] in
-      let rows' = set rows r (set row c v) in
-      let same-len : length (set row c v) ≡ length row = length-set row c v in
-      let ls' : s < length rows' = rw (length-set rows r (set row c v)) ls in
-      let id' : d < length (get_or rows' s []) = rw (row-len rows r s (set row c v) same-len) id in
-      let first : flat rows' ≡ set all i v = flat-set rows r c v lr ic in
-      let second : flat (set rows' s (set (get_or rows' s []) d w)) ≡ set (flat rows') (start rows' s + d) w = flat-set rows' s d w ls' id' in
-      let v-is : v ≡ get_or all j any = ev ∙ sym (get_or-flat rows s d any ls id) in
-      let w-is : w ≡ get_or all i any = ew ∙ sym (get_or-flat rows r c any lr ic) in
-      let swapped : set (set all i (get_or all j any)) j (get_or all i any) ≡ swap all i j = swap_is all i j any (start-below rows r c lr ic) (start-below rows s d ls id) in
-      second ∙ rw (start-set rows r s (set row c v) same-len, first, v-is, w-is) swapped
-
   -- the item at a place of a list
   item : (xs : List A) (i : ℕ) → i < length xs → A
   item [] i lt = absurd (omega arith)
@@ -86,27 +44,12 @@ module _ {A : Type 0} where
   -- two items of row r are exchanged
   pub flat-swap : (rows : List (List A)) (r c d : ℕ) → r < length rows → c < length (get_or rows r []) → d < length (get_or rows r [])
       → flat (set rows r (swap (get_or rows r []) c d)) ≡ swap (flat rows) (start rows r + c) (start rows r + d)
-  flat-swap rows r c d lr ic id =
-      let row = get_or rows r [] in
-      let any : A = item row c ic in
-      let v = get_or row d any in
-      let w = get_or row c any in
-      let both : set (set row c v) d w ≡ swap row c d = swap_is row c d any ic id in
-      let there : get_or (set rows r (set row c v)) r [] ≡ set row c v = get_or-set_same rows r (set row c v) [] lr in
-      let once : set (set rows r (set row c v)) r (set (set row c v) d w) ≡ set rows r (swap row c d) = set-set rows r (set row c v) (set (set row c v) d w) ∙ ap (λ y. set rows r y) both in
-      ap flat (sym once) ∙ ap (λ y. flat (set (set rows r (set row c v)) r (set y d w))) (sym there) ∙ flat-two rows r c r d v w any lr ic lr id refl refl
-
-  -- the rows are cut at row s; row r, which is before the cut, and row s are written
-  parts : (rows front back : List (List A)) (r s : ℕ) (a b : List A) → front ≡ take s rows → back ≡ drop s rows → r < s
-      → set front r a ++ set back 0 b ≡ set (set rows r a) s b
-  parts rows front back r s a b is-front is-back lt =
-      let new = set (set rows r a) s b in
-      let front-new : take s new ≡ set front r a = take-set (set rows r a) s b ∙ take-set-lt s rows r a lt ∙ ap (λ l. set l r a) (sym is-front) in
-      let zero-more : s + 0 ≡ s = omega arith in
-      let at : drop s (set (set rows r a) (s + 0) b) ≡ set (drop s (set rows r a)) 0 b = drop-set-add s (set rows r a) 0 b in
-      let back-new : drop s new ≡ set back 0 b =
-      ap (λ k. drop s (set (set rows r a) k b)) (sym zero-more) ∙ at ∙ ap (λ l. set l 0 b) (drop-set-lt s rows r a lt ∙ sym is-back) in
-      rw (front-new, back-new) at (take-append-drop s new)
+  flat-swap [] r c d lt ic id = absurd (omega arith)
+  flat-swap (x ∷ xs) zero c d lt ic id = rw (zero-add c, zero-add d) (in-front x (flat xs) c d ic id)
+  flat-swap (x ∷ xs) (suc r) c d lt ic id =
+      let lr : r < length xs = omega arith in
+      let at : (k : ℕ) → start (x ∷ xs) (suc r) + k ≡ length x + (start xs r + k) = λ k. rw (length-append x (flat (take r xs))) (add_assoc _ _ _) in
+      rw (at c, at d) (ap (λ l. x ++ l) (flat-swap xs r c d lr ic id) ∙ behind x (flat xs) (start xs r + c) (start xs r + d) (start-below xs r c lr ic) (start-below xs r d lr id))
 
   -- an item of row r is exchanged with one of a later row s, where the rows are cut at row s
   pub flat-exchange : (rows front back : List (List A)) (r c s d : ℕ) (a b : List A) → front ≡ take s rows → back ≡ drop s rows → r < s → s < length rows
@@ -114,23 +57,23 @@ module _ {A : Type 0} where
       c < length x → d < length y → ((any : A) → a ≡ set x c (get_or y d any)) → ((any : A) → b ≡ set y d (get_or x c any))
       → flat (set front r a ++ set back 0 b) ≡ swap (flat rows) (start rows r + c) (start rows s + d)
   flat-exchange rows front back r c s d a b is-front is-back lt ls ic id ea eb =
-      let x-is : get_or front r [] ≡ get_or rows r [] = ap (λ l. get_or l r []) is-front ∙ get_or-take s rows r [] lt in
-      let zero-more : s + 0 ≡ s = omega arith in
-      let y-is : get_or back 0 [] ≡ get_or rows s [] = ap (λ l. get_or l 0 []) is-back ∙ get_or-drop s rows 0 [] ∙ ap (λ k. get_or rows k []) zero-more in
-      let any : A = item (get_or front r []) c ic in
-      let v = get_or (get_or back 0 []) d any in
-      let w = get_or (get_or front r []) c any in
-      let row = get_or rows r [] in
-      let rows' = set rows r (set row c v) in
-      let apart : s ≢ r = omega arith in
-      let other : get_or rows' s [] ≡ get_or rows s [] = get_or-set_other rows r s (set row c v) [] apart in
-      let a-is : a ≡ set row c v = ea any ∙ ap (λ l. set l c v) x-is in
-      let b-is : b ≡ set (get_or rows' s []) d w = eb any ∙ ap (λ l. set l d w) (y-is ∙ sym other) in
-      let lr : r < length rows = omega arith in
-      let ic' : c < length row = rw x-is at ic in
-      let id' : d < length (get_or rows s []) = rw y-is at id in
-      ap flat (parts rows front back r s a b is-front is-back lt) ∙ ap (λ l. flat (set (set rows r l) s b)) a-is ∙ ap (λ l. flat (set rows' s l)) b-is ∙
-      flat-two rows r c s d v w any lr ic' ls id' (ap (λ l. get_or l d any) y-is) (ap (λ l. get_or l c any) x-is)
+      let x = get_or front r [] in
+      let y = get_or back 0 [] in
+      let any : A = item x c ic in
+      let v = get_or y d any in
+      let w = get_or x c any in
+      let i = start front r + c in
+      let lf : r < length front = rw (is-front, length-take-le s rows (omega arith)) lt in
+      let lb : 0 < length back = rw (is-back, length-drop s rows) (omega arith) in
+      let first : flat (set front r a) ≡ set (flat front) i v = ap (λ t. flat (set front r t)) (ea any) ∙ flat-set front r c v lf ic in
+      let second : flat (set back 0 b) ≡ set (flat back) d w = ap (λ t. flat (set back 0 t)) (eb any) ∙ flat-set back 0 d w lb id ∙ ap (λ k. set (flat back) k w) (zero-add d) in
+      let at-i : w ≡ get_or (flat front) i w = get_or_default x c any w ic ∙ sym (get_or-flat front r c w lf ic) in
+      let at-d : v ≡ get_or (flat back) d v = get_or_default y d any v id ∙ sym (get_or-flat back 0 d v lb id) ∙ ap (λ k. get_or (flat back) k v) (zero-add d) in
+      let ld : d < length (flat back) = rw (zero-add d) at (start-below back 0 d lb id) in
+      let all : flat front ++ flat back ≡ flat rows = sym (flat_map-append (λ row. row) front back) ∙ ap flat (ap₂ (λ f l. f ++ l) is-front is-back ∙ take-append-drop s rows) in
+      let before : start front r ≡ start rows r = ap (λ l. start l r) is-front ∙ ap (λ l. length (flat l)) (take-take r s rows (omega arith)) in
+      flat_map-append (λ row. row) (set front r a) (set back 0 b) ∙ ap₂ (λ f l. f ++ l) first second ∙ across (flat front) (flat back) i d w v (start-below front r c lf ic) ld at-i at-d
+      ∙ ap (λ l. swap l i (length (flat front) + d)) all ∙ ap (λ k. swap (flat rows) (k + c) (length (flat front) + d)) before ∙ ap (λ l. swap (flat rows) (start rows r + c) (length (flat l) + d)) is-front
 
   -- the same exchange if the first place is the later one
   pub later-first : (rows : List (List A)) (new : List A) (r c s d n i j : ℕ) → start rows r ≡ r * n → start rows s ≡ s * n
@@ -226,3 +169,16 @@ module _ {A : Type 0} where
   IsFlat-width n rows width =
       let whole : length (flat rows) ≡ length rows * n = ap (λ l. length (flat l)) (sym (take_all (length rows) rows (omega arith))) ∙ starts n rows width (length rows) (omega arith) in
       record { len = whole; places = λ i lt. place-of n rows width i (omega (arith, whole)) }
+
+  -- then the rows are the pieces of all items
+  cut : (n : ℕ) (rows : List (List A)) → ((k : ℕ) → k < length rows → length (get_or rows k []) ≡ n) → 0 < n → (k : ℕ) → k ≤ length rows → pieces n (flat (take k rows)) ≡ take k rows
+  cut n rows width some zero le = pieces-nil n
+  cut n rows width some (suc k) le =
+      let row = get_or rows k [] in
+      let next : suc k ≡ k + 1 = omega arith in
+      let wide : length row ≡ n = width k (omega arith) in
+      rw (next, take_more rows k [] (omega arith)) (ap (pieces n) (sym (flat_map_more (λ r. r) [] (take k rows) row))
+      ∙ pieces-more n k (flat (take k rows)) row (starts n rows width k (omega arith)) (omega arith) (omega arith) ∙ ap (λ t. t ++ row ∷ []) (cut n rows width some k (omega arith)))
+
+  pub pieces-width : (n : ℕ) (rows : List (List A)) → ((k : ℕ) → k < length rows → length (get_or rows k []) ≡ n) → 0 < n → pieces n (flat rows) ≡ rows
+  pieces-width n rows width some = rw (take_all (length rows) rows (omega arith)) at (cut n rows width some (length rows) (omega arith))

@@ -1,7 +1,6 @@
 -- The modules of lemmas of this crate.
 pub mod Callers
 pub mod FilledChunk
-pub mod FilledFront
 pub mod FlatLemmas
 pub mod JoinedLists
 pub mod JsonLists

@@ -1,19 +1,44 @@
--- What the hand-written proofs about loans share: their types, a fact added to what is owned, and a
--- loan that may exist, taken from a loan that does exist.
-use Rattle.std.proofs.Common.{ℕ, [], ◌∷◌, refl, Option, Some, None, OnSome}
+-- What the hand-written proofs about loans share: the names of the logic, their types, a fact added
+-- to what is owned, and a loan that may exist, taken from a loan that does exist.
+pub use Rattle.std.proofs.Common.{◌≡◌, refl, sym, ap, subst, ◌∙◌, ℕ, zero, suc, ◌+◌, ◌*◌, ◌^◌, ◌<◌, ◌≤◌, mul-le-mul_right, zero-mul, suc-mul, arith, List, [], ◌∷◌, ◌++◌, length, get_or, set, take, length-set, slice_set, slice_index_or, slice_get, Option, Some, None, OnSome}
+pub use mir.Syntax.{Fn, named, w64, erased, mut, ty_ref, ty_param, ty_array_p, Args, a_type, a_number, ty_array}
+pub use mir.MapTy.{inst_fn}
+pub use mir.Val.{Val, vptr, vint}
+pub use base.Logic.{SProp, ent, sep, ex, guard, id⊢, emp, guard_i}
+pub use base.Fraction.{full_share}
+pub use base.Fml.{Fml, fsep, feq, Lft, GName, Share, ftrue, flft, fobs, fbor, fat}
+pub use prog.Memory.{Memory, capped, size}
+pub use types.Kit.{‵, ◌⊛◌, raw, given, some, later, ◌$◌, ◌∵◌, !, qed, by, move, keep, drop, split, split3, join, learn, fsplit, fsplit3, fjoin, fjoin3, use0, use1, use2, await, pick, suffices, frame, done, updating, group, now, show, rewrite, feq_i, feq_l, check, use3, fpick, fpack}
+pub use types.Run.{stop, addr, bin, size_word, returns, enter, fld, from, hop, no_more, and_then, load, of_opd}
+pub use types.ByLocal.{alloc_all, pass_all, free_all, look_at, get, through, sets, is, look_in_at, get_in, lands_as}
+pub use contract.BorrowLft.{◌⊑◌}
+pub use contract.Monad.{Fun, fact}
+pub use contract.Running.{tables}
+pub use denote.Builtin.{RefMutOf, usize, SliceRefMutOf}
+pub use denote.Exit.{yes, no}
+pub use denote.Follow.{follows, follows_then, follows_by, follows_if, follows_so, followed, such_by}
+pub use denote.Array.{Array}
+pub use denote.Memory.{mem, part_at, cell_at}
+pub use denote.Param.{number, layout, param, arg, layouts, ArrayAt}
+pub use denote.Plain.{uint_vals, uint_Tells, uint_Makes}
+pub use denote.RattleType.{RattleType, owns}
+pub use denote.Ref.{MutBor, MutRef, mut_vals, mut_Tells, at_last}
+pub use denote.Signature.{plain, mut_slice_of}
+pub use denote.Steps.{nothing, only, heard, owned, peeks, opens, closes}
+pub use denote.Triple.Clauses.{Clauses, Ended, Lasts, lasts}
+pub use denote.Triple.Walked.{Stays, stay_dropped, walk_of, ends_at, Goes-dropped, Goes-spent_ref, Goes-spent_slice, says}
+pub use Rattle.std.proofs.lemmas.List.{get_or_default}
+pub use Rattle.std.proofs.raw_atomic.Walks.{proved}
+pub use types.Part.{whole, sub, agg, look_in}
+pub use denote.Laws.{shows}
+pub use denote.Slice.{MutSlice, mut_slice_vals, mut_slice_Tells, slice_ty, slice_val}
+pub use denote.Triple.Call.{calls_at}
+pub use denote.Triple.Spec.{triple_of}
+pub use denote.Triple.Table.{framed}
 use seplogic.Ra.Ura.{Ura}
-use mathlib.Core.Option as maybe
-use mir.Syntax.{Args, a_type, a_number, ty_array}
-use base.Logic.{ent, sep, emp, guard_i}
-use base.Fml.{GName}
-use contract.Monad.{fact}
 use types.Logic.{Logic, sem}
-use types.Kit.{‵, ◌$◌, ◌∵◌, !, qed, move, use2, fpick, fpack, done}
-use denote.Exit.{yes, no}
-use denote.Follow.{follows, follows_by, follows_if, follows_so, follows_then, followed, such_by}
-use denote.Param.{param, arg, number, layout, layouts, ArrayAt}
 use denote.Param.Laws.{Laws, param_laws, arg_laws, number_array_laws}
-use denote.RattleType.{RattleType}
+use mathlib.Core.Option as maybe
 
 module _ (X : RattleType) (n : ℕ) where
   -- the arguments of a function over items X and rows of n items

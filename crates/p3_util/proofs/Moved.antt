@@ -1,10 +1,8 @@
 -- Items are moved out of a list one after another: those before place k are gone, and those from
 -- place k on are as they were.
-use Rattle.std.proofs.Common.{ℕ, ◌≡◌, ◌+◌, ◌*◌, ◌<◌, List, [], ◌∷◌, ◌++◌, length, get_or, set, take, drop, sym, ap, ◌∙◌, arith, append_assoc}
+use Rattle.std.proofs.Common.{ℕ, ◌≡◌, ◌+◌, ◌<◌, List, [], ◌∷◌, ◌++◌, length, get_or, set, take, drop, sym, ap, ◌∙◌, arith, append_assoc}
 use Rattle.std.proofs.lemmas.List.{drop-drop, drop-set-lt, flat_map_more, get_or-drop, take_more}
 use Rattle.p3_util.specs.Flat.{flat}
-use Rattle.p3_util.specs.Pieces.{pieces}
-use Rattle.p3_util.proofs.PiecesLemmas.{pieces-more}
 
 module _ {A : Type 0} where
   -- the item at place k is still the one of the original list
@@ -30,17 +28,3 @@ moved-more-rows done l old k same within is =
     let here : get_or l k [] ≡ get_or old k [] = same_item l old k [] same in
     ap (λ t. t ++ get_or l k []) is ∙ ap (λ y. flat (take k old) ++ y) here ∙ flat_map_more (λ row. row) [] (take k old) (get_or old k []) ∙
     ap flat (sym (take_more old k [] within))
-
--- one more row has been moved, and the items moved so far are cut into rows of n again
-pub cut-more : {A : Type 0} (n k : ℕ) (done : List A) (l old : List (List A)) → drop k l ≡ drop k old → k < length old → pieces n done ≡ take k old
-    → length done ≡ k * n → length (get_or l k []) ≡ n → 0 < n → pieces n (done ++ get_or l k []) ≡ take (k + 1) old
-cut-more n k done l old same within is len width some =
-    let row = get_or l k [] in
-    let here : row ≡ get_or old k [] = same_item l old k [] same in
-    pieces-more n k done row len (omega arith) (omega arith) ∙ ap (λ t. t ++ row ∷ []) is ∙ ap (λ y. take k old ++ y ∷ []) here ∙ sym (take_more old k [] within)
-
--- one more row is added to rows that are the pieces of their items
-pub cut-push : {A : Type 0} (n : ℕ) (rows : List (List A)) (row : List A) → pieces n (flat rows) ≡ rows → length (flat rows) ≡ length rows * n → length row ≡ n → 0 < n
-    → pieces n (flat (rows ++ row ∷ [])) ≡ rows ++ row ∷ []
-cut-push n rows row is len width some =
-    ap (pieces n) (sym (flat_map_more (λ r. r) [] rows row)) ∙ pieces-more n (length rows) (flat rows) row len (omega arith) (omega arith) ∙ ap (λ t. t ++ row ∷ []) is

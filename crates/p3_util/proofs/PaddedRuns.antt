@@ -3,6 +3,7 @@ use Rattle.std.proofs.Common.{◌≡◌, ℕ, zero, suc, ◌+◌, ◌-◌, ◌*�
 use Rattle.std.specs.Iterator.{Yields, YieldsThen, DrainsIf}
 use Rattle.std.specs.Iterator.Runs.{Run, SomeRun, EachRunFrom}
 use Rattle.std.proofs.iter.runs.Made.{run, took}
+use Rattle.std.proofs.iter.runs.Lists.{Yields-both}
 use Rattle.std.proofs.lemmas.Bool.{cases_Bool}
 use Rattle.std.proofs.lemmas.List.{map-append, length-map}
 use Rattle.std.proofs.lemmas.List.Folds.{flat_map-map}
@@ -55,27 +56,19 @@ zero_or_some : (n : ℕ) → (n ≡ 0) ⊎ (0 < n)
 zero_or_some zero = inl refl
 zero_or_some (suc n) = inr (omega arith)
 
-Yields-join : {S A : Type 0} (steps : S → Option A → S → Type 0) (s : S) (xs : List A) (t : S) (ys : List A) (u : S) → Yields steps s xs t → Yields steps t ys u → Yields steps s (xs ++ ys) u
-Yields-join steps s [] t ys u a b = subst (λ k. Yields steps k ys u) (sym a) b
-Yields-join steps s (x ∷ xs) t ys u a b = (a.0, a.1, Yields-join steps a.0 xs t ys u a.2 b)
-
 -- calls from s returned xs, then `None` if `ended` is true, and left t
 Pulled : {S A : Type 0} → (S → Option A → S → Type 0) → S → List A → Bool → S → Type 0
 Pulled steps s xs ended t = MatchBool ended (YieldsThen steps s xs None t) (Yields steps s xs t)
 
 pulled-behind : {S A : Type 0} (steps : S → Option A → S → Type 0) (s j t : S) (xs ys : List A) (ended : Bool) → Yields steps s xs j → Pulled steps j ys ended t → Pulled steps s (xs ++ ys) ended t
 unfolding Pulled
-pulled-behind steps s j t xs ys false a b = Yields-join steps s xs j ys t a b
-pulled-behind steps s j t xs ys true a b = (b.0, Yields-join steps s xs j ys b.0 a b.1, b.2)
+pulled-behind steps s j t xs ys false a b = Yields-both steps xs ys s j t a b
+pulled-behind steps s j t xs ys true a b = (b.0, Yields-both steps xs ys s j b.0 a b.1, b.2)
 
 drains-behind : {S A : Type 0} (steps : S → Option A → S → Type 0) (ended : Bool) (w : Type 0) (s t : S) (xs : List A) → Pulled steps s xs ended t → (ended ≡ false → w → (u : S) × steps t None u) → DrainsIf steps w s xs
 unfolding Pulled
 drains-behind steps false w s t xs came ends = (t, came, ends refl)
 drains-behind steps true w s t xs came ends = (came.0, came.1, λ _. (t, came.2))
-
-within : {S A : Type 0} (steps : S → Option A → S → Type 0) (n : ℕ) (s t : S) (xs : List A) (ended : Bool) → TakesPiece steps n s xs ended t → length xs ≤ n
-within steps n s t xs true h = omega (arith, h.1.0)
-within steps n s t xs false h = omega (arith, h.1.0)
 
 no-piece-asks : (zero d e : Bool) (X Y : Type 0) → zero ≡ false → d ≡ false → MatchBool (if zero then true else d) X (Y × (e ≡ true)) → Y
 no-piece-asks true d e X Y some begun h = absurd (true≢false some)

@@ -1,18 +1,17 @@
 -- What follows from `specs/Pieces.antt`: how many pieces there are, which piece is at which place,
 -- and what one more piece adds.
-use Rattle.std.proofs.Common.{◌≡◌, ℕ, zero, suc, get_or, slice_get, ◌+◌, ◌*◌, ◌/◌, ◌%◌, ◌<◌, ◌≤◌, List, [], ◌∷◌, ◌++◌, map, length, take, drop, refl, sym, ap, ap₂, ◌∙◌, subst, rules, false, length-append, length-drop, append-nil, ◌==◌, arith}
+use Rattle.std.proofs.Common.{◌≡◌, ℕ, zero, suc, ◌+◌, ◌*◌, ◌/◌, ◌%◌, ◌<◌, ◌≤◌, List, [], ◌∷◌, ◌++◌, map, length, take, drop, refl, sym, ap, ap₂, ◌∙◌, subst, rules, false, length-append, length-drop, append-nil, ◌==◌, arith}
 use borrow.Author.Tests.{tests}
 use Rattle.std.proofs.Math.Nat.{lt_of_mul-lt-mul_left, mul-le-mul_right}
 use Rattle.std.proofs.Math.Seq.{drop-append_seam}
 use Rattle.std.proofs.lemmas.Grind.{div_ceil_times, flat_map-append}
 use Rattle.std.proofs.lemmas.List.{take-append-le, drop-append-le, length-take-le, take-append-drop, take_all}
-use Rattle.std.proofs.lemmas.List.FromFn.{get_or-map-range_with_len, map-range_with_len_more, length-map-range_with_len}
-use Rattle.std.proofs.lemmas.Nat.{div-add-mod', mod_below}
+use Rattle.std.proofs.lemmas.List.FromFn.{map-range_with_len_more, length-map-range_with_len}
+use Rattle.std.proofs.lemmas.Nat.{div-add-mod'}
 use Rattle.std.specs.Int.{div_ceil}
 use Rattle.std.specs.List.{flat_map, range_with_len}
-use Rattle.p3_util.specs.Flat.{IsFlat, flat}
+use Rattle.p3_util.specs.Flat.{flat}
 use Rattle.p3_util.specs.Pieces.{piece_count, piece, pieces}
-use Rattle.p3_util_kernels.proofs.PlacesLemmas.ListParts.{slice_get-drop, slice_get-take}
 
 pub eq_zero-false : (n : ℕ) → 0 < n → (n == 0) ≡ false
 eq_zero-false n some = search (rules, tests)
@@ -135,24 +134,3 @@ module _ {A : Type 0} where
   -- all pieces, joined, are the list
   pub joined-pieces : (n : ℕ) (xs : List A) → 0 < n → flat (pieces n xs) ≡ xs
   joined-pieces n xs some = in-pieces (λ l. flat (pieces n l) ≡ l) n some (λ k front back whole short. joined-by n k front back some whole short) xs
-
-  -- item i is in piece i / n, at place i mod n
-  pub slice_get-pieces : (n i : ℕ) (xs : List A) → 0 < n → i < length xs → slice_get xs i ≡ slice_get (get_or (pieces n xs) (i / n) []) (i % n)
-  unfolding pieces
-  slice_get-pieces zero i xs some inside = absurd (omega arith)
-  slice_get-pieces (suc m) i xs some inside =
-      let n = suc m in
-      let upper : length xs ≤ div_ceil (length xs) n * n = div_ceil-upper (length xs) n some in
-      let place : i / n * n + i % n ≡ i = div-add-mod' i n in
-      let among : i / n < div_ceil (length xs) n = lt_of_mul-lt-mul_left n (omega (arith, place, upper)) in
-      let row : get_or (map (piece n xs) (range_with_len 0 (div_ceil (length xs) n))) (i / n) [] ≡ piece n xs (i / n) =
-      get_or-map-range_with_len (piece n xs) 0 (div_ceil (length xs) n) (i / n) (i / n) [] among (omega arith) in
-      rw (row, slice_get-take n (drop (i / n * n) xs) (i % n) (mod_below i n some), slice_get-drop (i / n * n) xs (i % n) i (omega arith)) refl
-
-  -- if rows are the pieces of a list, they are its rows place by place
-  pub IsFlat-pieces : (n : ℕ) (rows : List (List A)) (xs : List A) → length xs ≡ length rows * n → (0 < n → pieces n xs ≡ rows) → IsFlat n rows xs
-  IsFlat-pieces zero rows xs len cut = record { len = len; places = λ i inside. absurd (omega arith) }
-  IsFlat-pieces (suc m) rows xs len cut = record {
-    len = len;
-    places = λ i inside. slice_get-pieces (suc m) i xs (omega arith) inside ∙ ap (λ l. slice_get (get_or l (i / suc m) []) (i % suc m)) (cut (omega arith));
-  }

@@ -37,7 +37,7 @@ module _ {A : Type 0} where
   in-front (x ∷ xs) ys i j li lj = front x (x ∷ xs) ys i j li lj
 
   -- both places in the second list
-  behind : (xs ys : List A) (i j : ℕ) → i < length ys → j < length ys → xs ++ swap ys i j ≡ swap (xs ++ ys) (length xs + i) (length xs + j)
+  pub behind : (xs ys : List A) (i j : ℕ) → i < length ys → j < length ys → xs ++ swap ys i j ≡ swap (xs ++ ys) (length xs + i) (length xs + j)
   behind xs [] i j li lj = absurd (omega arith)
   behind xs (y ∷ ys) i j li lj = back y xs (y ∷ ys) i j li lj
 

@@ -58,7 +58,7 @@ fn fill<const N: usize, I: Iterator<Item = u8>>(iter: &mut I, buf: &mut [u8; N])
     ensures long { length buf.new ≡ N }
     ensures within { result ≤ N }
     ensures full { result ≡ N → Yields I.next_gives iter.old (take result buf.new) iter.new }
-    ensures can { result ≡ N → I.can_next iter.new }
+    ensures can { result ≡ N → 0 < N → I.can_next iter.new }
     ensures fewer { result ≡ N → IsFinite (I.remaining iter.new)
         × (size (I.remaining iter.new) + N ≤ size (I.remaining iter.old)) }
     ensures short { result < N

@@ -1,9 +1,11 @@
 //! The iterators that lend the pairs, the keys or the values of a map, in its order. A contract
 //! sees each of them as the list of the items that are left.
-ghost use Rattle.std.specs.Prelude.{◌≡◌, ⊤, Some, length, IfSome};
+ghost use Rattle.std.specs.Prelude.{◌≡◌, ⊤, List, Some, length, IfSome};
 ghost use Rattle.std.specs.Iterator.{item_count, at_most, UpTo};
 ghost use Rattle.std.specs.Iterator.SizeHint.{IsWithinCount};
+ghost use Rattle.std.specs.Map.{keys_of, values_of};
 ghost use Rattle.std.specs.Map.Iter.{TakesFirst, TakesLast, deref};
+ghost use Rattle.std.specs.Slice.Iter.{iter_rest};
 
 use std::alloc::AllocError;
 use std::iter::FusedIterator;
@@ -18,9 +20,6 @@ pub struct Iter<'a, K, V> {
 }
 
 impl<'a, K, V> Model for Iter<'a, K, V> {
-    ghost use Rattle.std.specs.Prelude.{List};
-    ghost use Rattle.std.specs.Slice.Iter.{iter_rest};
-
     ghost Value = { List (K × V) };
 
     ghost view = { λ s. iter_rest s.pairs };
@@ -87,10 +86,6 @@ pub struct Keys<'a, K, V> {
 }
 
 impl<'a, K, V> Model for Keys<'a, K, V> {
-    ghost use Rattle.std.specs.Prelude.{List};
-    ghost use Rattle.std.specs.Map.{keys_of};
-    ghost use Rattle.std.specs.Slice.Iter.{iter_rest};
-
     ghost Value = { List K };
 
     ghost view = { λ s. keys_of (iter_rest s.pairs) };
@@ -157,10 +152,6 @@ pub struct Values<'a, K, V> {
 }
 
 impl<'a, K, V> Model for Values<'a, K, V> {
-    ghost use Rattle.std.specs.Prelude.{List};
-    ghost use Rattle.std.specs.Map.{values_of};
-    ghost use Rattle.std.specs.Slice.Iter.{iter_rest};
-
     ghost Value = { List V };
 
     ghost view = { λ s. values_of (iter_rest s.pairs) };

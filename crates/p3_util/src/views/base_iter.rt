@@ -2,7 +2,7 @@
 
 ghost use Rattle.std.specs.Prelude.{◌≡◌, List, length, Some, IfSome};
 ghost use Rattle.std.specs.Iterator.{item_count, UpTo};
-ghost use Rattle.std.specs.Map.Iter.{TakesFirst, deref};
+ghost use Rattle.std.specs.Map.Iter.{TakesFirst, ShowsInOrder, deref};
 ghost use Rattle.std.specs.Iterator.SizeHint.{IsWithinCount};
 ghost use Rattle.std.specs.Slice.Iter.{iter_rest};
 
@@ -25,7 +25,8 @@ impl<'a, Base> Model for BaseIter<'a, Base> {
 impl<'a, Base> BaseIter<'a, Base> {
     /// An iterator over the items of `items`, in order.
     pub(super) fn new(items: &'a [Base]) -> Self
-        ensures { result ≡ items.now }
+        ensures rest { result ≡ items.now }
+        ensures runs { ShowsInOrder (deref {X = Base}) }
     {
         BaseIter { rest: items.iter() }
     }

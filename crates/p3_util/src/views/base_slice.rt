@@ -1,6 +1,6 @@
 //! Slices of arrays, viewed as the list of their items.
 
-ghost use Rattle.std.specs.Prelude.{◌≡◌, ◌==◌, ◌*◌, ◌^◌, ◌<◌, ◌≤◌, List, Some, length, slice_get};
+ghost use Rattle.std.specs.Prelude.{◌≡◌, ⊤, ◌==◌, ◌*◌, ◌^◌, ◌<◌, ◌≤◌, List, Some, length, slice_get};
 ghost use Rattle.std.specs.Map.Iter.{ShowsInOrder, deref};
 ghost use Rattle.std.specs.Option.{option_copied};
 ghost use Rattle.p3_util.specs.Flat.{IsFlat, flat};
@@ -75,8 +75,6 @@ impl<'a, Base, const N: usize> BaseSlice<'a, Base, N> {
 
 /// A clone is a view of the same items. It allocates nothing.
 impl<'a, Base, const N: usize> Clone for BaseSlice<'a, Base, N> {
-    ghost use Rattle.std.specs.Prelude.{⊤};
-
     ghost is_clone = { λ s r. r ≡ s };
 
     ghost is_infallible = { λ _. ⊤ };

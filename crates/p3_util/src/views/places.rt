@@ -2,6 +2,7 @@
 
 ghost use Rattle.std.specs.Prelude.{◌≡◌, ◌+◌, ◌*◌, ◌/◌, ◌%◌, ◌^◌, ◌<◌, IsTrue, length, take};
 ghost use Rattle.p3_util.specs.Flat.{IsFlat, countable_items, flat};
+ghost use Rattle.p3_util.specs.Pieces.{pieces};
 
 /// The items of all rows, or no items if a `usize` cannot count them.
 pub(super) fn countable<T, const N: usize>(rows: &[[T; N]]) -> &[T]
@@ -34,6 +35,7 @@ pub(super) fn width_of<T, const N: usize>(row: &[T; N]) -> usize
 pub(super) fn each_in_its_row<T, const N: usize>(rows: &[[T; N]]) -> bool
     ensures yes { IsTrue result }
     ensures places { IsFlat N rows.now (flat rows.now) }
+    ensures rows { 0 < N → pieces N (flat rows.now) ≡ rows.now }
 {
     for r in 0..rows.len() {
         let _ = width_of(&rows[r]);

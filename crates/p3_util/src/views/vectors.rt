@@ -5,6 +5,7 @@ ghost use Rattle.std.specs.Vec.Iter.{into_iter_items};
 ghost use Rattle.p3_util.specs.Flat.{IsFlat, flat};
 ghost use Rattle.p3_util.specs.Pieces.{pieces};
 
+use super::places::each_in_its_row;
 use crate::NoRoom;
 use std::alloc::Global;
 use std::vec::IntoIter;
@@ -34,6 +35,7 @@ pub fn flatten_to_base<Base: Default + Drop, const N: usize>(
     ensures given { IfErr result (λ refused. refused.given ≡ vec) }
     ensures needs_none { vec_len vec * N ≡ 0 → IsOk result }
 {
+    prove!(each_in_its_row(&vec));
     let Ok(mut items) = Vec::with_capacity(alloc, vec.len() * N) else {
         return Err(NoRoom { given: vec });
     };
@@ -86,6 +88,7 @@ pub fn reconstitute_from_base<Base: Default + Drop, const N: usize>(
     for _ in 0..count {
         rows.push_reserved(next_row(&mut items));
     }
+    prove!(each_in_its_row(&rows));
     Ok(rows)
 }
 

@@ -19,7 +19,7 @@ loop-buf-preserved g c =
     let long : length (take c.fill-len.result c.fill-len.new.buf) ≡ g.row.BUFLEN = length-take-le c.fill-len.result c.fill-len.new.buf (omega (arith, full, filled.long)) ∙ full in (
       Cuts-more c.loop-buf.invariant.0 (omega (arith, c.if-this-eq0.false)) long (filled.full full) (record { shown = _; shows = ap (take c.fill-len.result) c.as_slice.ensures; called = c.func.ensures }),
       mut_next g.H.FnMut _ _ _ _ _ c.func.ensures refl c.loop-buf.invariant.1,
-      filled.can full,
+      filled.can full (omega (arith, c.if-this-eq0.false)),
       (filled.fewer full).0,
     )
 

@@ -13,8 +13,8 @@ returns-else-len-eq0-clause-steps g c =
     let some : 0 < c.loop-len.len = omega (arith, c.if-len-eq0.false) in
     let h = c.loop-len.invariant in
     elim c.loop-len-test.branch [
-      | else-loop-len-test w ↦ rw (w.self-is, h.2) (h.1, (c.if-self.false, Fills-full h.0 some w.loop-len-test.false))
-      | then-loop-len-test+in_default w ↦ rw w.self-is (h.1, (c.if-self.false, Fills-short h.0 some w.loop-len-test.true w.in_default.ensures.steps))
+      | else-loop-len-test w ↦ rw (w.self-is, h.2) (h.1, (c.if-self.false, Fills-full _ h.0 some w.loop-len-test.false))
+      | then-loop-len-test+in_default w ↦ rw w.self-is (h.1, (c.if-self.false, Fills-short _ h.0 some w.loop-len-test.true w.in_default.ensures.steps))
     ]
 
 pub returns-else-len-eq0-clause-goes : goal.returns-else-len-eq0-clause-goes
@@ -23,8 +23,8 @@ returns-else-len-eq0-clause-goes g c =
     let h = c.loop-len.invariant in
     let more : 0 < g.row.N = omega (arith, some, h.0.within) in
     elim c.loop-len-test.branch [
-      | else-loop-len-test w ↦ rw w.self-is (Fills-full_progress g.I.Iterator.can_next g.I.Iterator.remaining h.0 c.if-self.false h.2 more w.loop-len-test.false)
-      | then-loop-len-test+in_default w ↦ rw w.self-is (Fills-last_progress g.I.Iterator.can_next g.I.Iterator.remaining h.0 c.if-self.false refl more some)
+      | else-loop-len-test w ↦ rw w.self-is (Fills-full_progress g.I.Iterator.can_next g.I.Iterator.remaining _ h.0 c.if-self.false h.2 more w.loop-len-test.false)
+      | then-loop-len-test+in_default w ↦ rw w.self-is (Fills-last_progress g.I.Iterator.can_next g.I.Iterator.remaining _ h.0 c.if-self.false refl more some)
     ]
 
 pub loop-len-init : goal.loop-len-init

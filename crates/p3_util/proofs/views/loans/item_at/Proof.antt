@@ -1,43 +1,10 @@
 -- The walk through the code of `item_at`. It takes two loans, the second one from what the first
 -- one lent. What the rows are at the end follows from what each of the two calls states.
-use Rattle.std.proofs.Common.{◌≡◌, ℕ, List, [], ◌∷◌, ◌<◌, ◌*◌, ◌^◌, refl, sym, ap, ◌∙◌, w64, MutBor, slice_set, slice_index_or, length}
-use Rattle.std.proofs.raw_atomic.Walks.{proved}
-use Rattle.std.proofs.lemmas.List.{get_or_default}
-use base.Logic.{id⊢}
-use base.Fml.{ftrue, flft}
-use mir.Syntax.{Fn, named}
-use mir.MapTy.{inst_fn}
-use mir.Val.{Val, vptr, vint}
-use prog.Memory.{size}
-use types.Kit.{‵, ◌⊛◌, raw, some, later, ◌$◌, ◌∵◌, !, qed, move, keep, drop, split, join, fsplit, fjoin, use0, use1, use2, await, pick, rewrite, suffices, frame, done}
-use types.Run.{stop, addr, fld, from, hop, no_more, and_then, returns, enter}
-use types.Part.{whole, sub, agg}
-use types.ByLocal.{alloc_all, pass_all, free_all, look_at, look_in_at, get, get_in, sets, lands_as}
-use contract.Monad.{fact}
-use contract.BorrowLft.{◌⊑◌}
-use contract.Running.{tables}
-use denote.Array.{Array}
-use denote.Builtin.{usize}
-use denote.Exit.{yes, no}
-use denote.Follow.{follows, follows_then}
-use denote.Laws.{shows}
-use denote.Param.{number, layout}
-use denote.Plain.{uint_vals, uint_Tells, uint_Makes}
-use denote.RattleType.{RattleType, owns}
-use denote.Ref.{MutRef, mut_vals, mut_Tells}
-use denote.Signature.{plain, mut_slice_of}
-use denote.Slice.{MutSlice, mut_slice_vals, mut_slice_Tells}
-use denote.Steps.{nothing, only, heard, owned, peeks}
-use denote.Triple.Call.{calls_at}
-use denote.Triple.Clauses.{Ended, Lasts, lasts}
-use denote.Triple.Spec.{triple_of}
-use denote.Triple.Table.{framed}
-use denote.Triple.Walked.{Stays, stay_dropped, walk_of, ends_at, Goes-dropped, Goes-spent_slice}
-use Rattle.p3_util.proofs.Loans.{inst, Row, ItemArg, RowArg, item_laws, row_laws, known}
+use Rattle.p3_util.specs.contracts.views.loans.item_at.Key.{name as #self}
+use Rattle.p3_util.proofs.Loans.{◌≡◌, ℕ, List, [], ◌∷◌, ◌<◌, ◌*◌, ◌^◌, refl, sym, ap, ◌∙◌, w64, MutBor, slice_set, slice_index_or, length, proved, get_or_default, id⊢, ftrue, flft, Fn, named, inst_fn, Val, vptr, vint, size, ‵, ◌⊛◌, raw, some, later, ◌$◌, ◌∵◌, !, qed, move, keep, drop, split, join, fsplit, fjoin, use0, use1, use2, await, pick, rewrite, suffices, frame, done, stop, addr, fld, from, hop, no_more, and_then, returns, enter, whole, sub, agg, alloc_all, pass_all, free_all, look_at, look_in_at, get, get_in, sets, lands_as, fact, ◌⊑◌, tables, Array, usize, yes, no, follows, follows_then, shows, number, layout, uint_vals, uint_Tells, uint_Makes, RattleType, owns, MutRef, mut_vals, mut_Tells, plain, mut_slice_of, MutSlice, mut_slice_vals, mut_slice_Tells, nothing, only, heard, owned, peeks, calls_at, Ended, Lasts, lasts, triple_of, framed, Stays, stay_dropped, walk_of, ends_at, Goes-dropped, Goes-spent_slice, inst, Row, ItemArg, RowArg, item_laws, row_laws, known}
 use Rattle.p3_util.specs.contracts.views.loans.row_of as row
 use Rattle.p3_util.specs.contracts.views.loans.item_of_row as item
 use Rattle.p3_util.specs.contracts.views.loans.item_at as F
-use Rattle.p3_util.specs.contracts.views.loans.item_at.Key.{name as #self}
 use Rattle.p3_util.proofs.views.loans.row_of.Met as row-thm
 use Rattle.p3_util.proofs.views.loans.item_of_row.Met as item-thm
 use Rattle.p3_util.proofs.views.loans.item_at.Statement as stated

@@ -1,57 +1,25 @@
 -- The walk through the code of `item_of_row`. The borrow checker does not follow a loan from an
 -- array to one of its items. So the array is taken apart into the items before, the one that is
 -- lent and the items after it, and is put together again when the loan ends.
-use mathlib.Core.Path.{◌≡◌, refl, sym, ap, subst, ◌∙◌}
-use Prim.Native.Nat.{ℕ, zero, suc, ◌+◌, ◌*◌, ◌^◌, ◌<◌, ◌≤◌}
-use native.Mathlib.Nat.{mul-le-mul_right, zero-mul, suc-mul}
-use native.Mathlib.Omega.{arith}
-use mathlib.Core.List.{List, [], ◌∷◌, ◌++◌}
-use lib.ListN.{length, get_or, set, take, drop as drop_list, length-set}
+use Rattle.std.proofs.Common.{drop as drop_list}
 use lib.Seq.{set_split, set-get_or}
 use seplogic.Ra.Ura.{Ura}
-use mir.Syntax.{Fn, named, w64}
-use mir.MapTy.{inst_fn}
-use mir.Val.{Val, vptr, vint}
-use base.Logic.{SProp, ent, sep, ex, guard}
-use base.Fraction.{full_share}
-use base.Fml.{Fml, fsep, feq, Lft, GName, Share, ftrue, flft, fobs, fbor}
 use prog.Capped.{capped_is}
-use prog.Memory.{Memory, capped, size}
 use prog.Routine.{Routine}
 use prog.Wp.{Calls, Loops, WpFn}
 use types.Logic.{Logic, sem}
 use types.Mut.{open_ref}
 use types.Follow.{takes_part}
 use types.SemTy.{cells, Body}
-use types.Kit.{Item as Entry, ‵, ◌⊛◌, raw, given, some, later, ◌$◌, ◌∵◌, !, qed, by, move, keep, drop, split, split3, join, learn, fsplit, fsplit3, fjoin, fjoin3, use0, use1, use2, await, pick, suffices, frame, done, updating, group, now, show, rewrite, feq_i, feq_l, check}
-use types.Run.{stop, addr, bin, size_word, returns, enter}
-use types.ByLocal.{alloc_all, pass_all, free_all, look_at, get, through, sets, is}
-use contract.BorrowLft.{◌⊑◌}
+use types.Kit.{Item as Entry}
 use contract.Lifetimes.{AllOutlive}
-use contract.Monad.{Fun, fact}
-use contract.Running.{tables}
 use borrow.Table.Elements.{at, at_mul, cut_app, join_app, length-take-le}
-use denote.Builtin.{RefMutOf, usize}
-use denote.Exit.{yes, no}
-use denote.Follow.{follows}
-use denote.Array.{Array}
 use denote.ArrayMemory.{Array-apart, Array-whole}
 use denote.Index.{row as side_by_side, whole_in, whole_out}
-use denote.Memory.{mem, part_at}
-use denote.Param.{number, layout}
-use denote.Plain.{uint_vals, uint_Tells}
-use denote.RattleType.{RattleType, owns}
-use denote.Ref.{MutBor, MutRef, mut_vals, mut_Tells}
-use denote.Signature.{plain}
-use denote.Steps.{nothing}
-use denote.Triple.Clauses.{Clauses, Ended}
 use denote.Triple.Entry.{on_entry}
-use denote.Triple.Walked.{Stays, stay_dropped, walk_of, ends_at, Goes-dropped, Goes-spent_ref}
-use Rattle.std.proofs.lemmas.List.{get_or_default}
-use Rattle.std.proofs.raw_atomic.Walks.{proved}
-use Rattle.p3_util.proofs.Loans.{inst, Item, Row, known}
-use Rattle.p3_util.specs.contracts.views.loans.item_of_row as F
 use Rattle.p3_util.specs.contracts.views.loans.item_of_row.Key.{name as #self}
+use Rattle.p3_util.proofs.Loans.{◌≡◌, refl, sym, ap, subst, ◌∙◌, ℕ, zero, suc, ◌+◌, ◌*◌, ◌^◌, ◌<◌, ◌≤◌, mul-le-mul_right, zero-mul, suc-mul, arith, List, [], ◌∷◌, ◌++◌, length, get_or, set, take, length-set, Fn, named, w64, inst_fn, Val, vptr, vint, SProp, ent, sep, ex, guard, full_share, Fml, fsep, feq, Lft, GName, Share, ftrue, flft, fobs, fbor, Memory, capped, size, ‵, ◌⊛◌, raw, given, some, later, ◌$◌, ◌∵◌, !, qed, by, move, keep, drop, split, split3, join, learn, fsplit, fsplit3, fjoin, fjoin3, use0, use1, use2, await, pick, suffices, frame, done, updating, group, now, show, rewrite, feq_i, feq_l, check, stop, addr, bin, size_word, returns, enter, alloc_all, pass_all, free_all, look_at, get, through, sets, is, ◌⊑◌, Fun, fact, tables, RefMutOf, usize, yes, no, follows, Array, mem, part_at, number, layout, uint_vals, uint_Tells, RattleType, owns, MutBor, MutRef, mut_vals, mut_Tells, plain, nothing, Clauses, Ended, Stays, stay_dropped, walk_of, ends_at, Goes-dropped, Goes-spent_ref, get_or_default, proved, inst, Item, Row, known}
+use Rattle.p3_util.specs.contracts.views.loans.item_of_row as F
 use Rattle.p3_util.proofs.views.loans.item_of_row.Statement as stated
 use Rattle.p3_util.proofs.views.loans.item_of_row.Code as code
 

@@ -1,25 +1,20 @@
 -- Each turn of the loop moves one more row. After the loop the items are those of all rows, in order.
-use Rattle.std.proofs.Common.{◌≡◌, ◌+◌, ◌*◌, ◌≤◌, ap, length, rules, vec_len, ◌∙◌, take_all, mul-le-mul_right, arith}
+use Rattle.std.proofs.Common.{◌+◌, ◌*◌, ◌≤◌, ap, length, rules, vec_len, sym, ◌∙◌, take_all, mul-le-mul_right, arith}
 use Rattle.std.proofs.Math.Nat.{mul-mod_left}
 use Rattle.p3_util.specs.Flat.{flat}
-use Rattle.p3_util.proofs.Moved.{cut-more, left-more, moved-more-rows}
-use Rattle.p3_util.proofs.PiecesLemmas.{IsFlat-pieces, pieces-nil}
+use Rattle.p3_util.proofs.Moved.{left-more, moved-more-rows}
+use Rattle.p3_util.specs.Pieces.{pieces}
 use Rattle.p3_util.proofs.views.vectors.flatten_to_base.Goals as goal
-
-pub loop-row-init : goal.loop-row-init
-loop-row-init g c = record { moved = search rules; left = search rules; full = search rules; cut = λ some. rw c.in-Ok.ensures.items (pieces-nil g.row.N); room = search rules }
 
 pub loop-row-preserved : goal.loop-row-preserved
 loop-row-preserved g c =
     let before = c.loop-row.invariant in
     let rows = c.loop-row.row-items in
     let old = c.args.vec.items in
-    let k = c.loop-row.row-index in
-    let len : length c.loop-row.items.items ≡ k * g.row.N = search (rules, before.full) in record {
+    let k = c.loop-row.row-index in record {
       moved = rw c.push_row.ensures.items (moved-more-rows _ rows old k before.left (omega (arith, ap length c.deref_mut-row-items.ensures.value)) before.moved);
       left = left-more rows old k c.push_row.new.row before.left;
       full = omega arith;
-      cut = λ some. rw c.push_row.ensures.items (cut-more _ k _ rows old before.left (omega (arith, ap length c.deref_mut-row-items.ensures.value)) (before.cut some) len c.push_row.ensures.width some);
       room = omega arith;
     }
 
@@ -38,8 +33,7 @@ returns-clause-items g c =
     c.loop-row.invariant.moved ∙ ap flat (take_all c.loop-row.row-index c.args.vec.items (omega (arith, c.loop-row-test.false, ap length c.deref_mut-row-items.ensures.value)))
 
 pub returns-clause-rows : goal.returns-clause-rows
-returns-clause-rows g c some =
-    c.loop-row.invariant.cut some ∙ take_all c.loop-row.row-index c.args.vec.items (omega (arith, c.loop-row-test.false, ap length c.deref_mut-row-items.ensures.value))
+returns-clause-rows g c some = ap (pieces g.row.N) (returns-clause-items g c ∙ ap flat (sym c.deref.ensures.value)) ∙ c.each_in_its_row.ensures.rows some ∙ c.deref.ensures.value
 
 pub returns-clause-places : goal.returns-clause-places
-returns-clause-places g c = IsFlat-pieces _ _ _ (grind (arith, returns-clause-len g c)) (returns-clause-rows g c)
+returns-clause-places g c = rw (returns-clause-items g c, ← c.deref.ensures.value) c.each_in_its_row.ensures.places

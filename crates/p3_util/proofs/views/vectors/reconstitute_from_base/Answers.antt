@@ -1,28 +1,12 @@
-use Rattle.std.proofs.Common.{◌≡◌, ℕ, ◌+◌, ◌*◌, ◌/◌, ◌%◌, ◌<◌, ◌≤◌, List, [], ◌∷◌, ◌++◌, append-nil, ap, length, length-append, rules, sym, vec_len, ◌∙◌, mul-le-mul_right, div-add-mod', arith}
+use Rattle.std.proofs.Common.{◌≡◌, ℕ, ◌+◌, ◌*◌, ◌/◌, ◌%◌, ◌<◌, ◌≤◌, List, [], ◌∷◌, ◌++◌, append-nil, ap, length, rules, sym, vec_len, ◌∙◌, mul-le-mul_right, div-add-mod', arith}
 use Rattle.std.proofs.lemmas.Grind.{common_steps}
 use Rattle.std.specs.Vec.Iter.{into_iter_items}
 use Rattle.p3_util.specs.Flat.{flat}
 use Rattle.p3_util.specs.Pieces.{pieces}
-use Rattle.p3_util.proofs.Moved.{cut-push}
-use Rattle.p3_util.proofs.PiecesLemmas.{IsFlat-pieces, pieces-nil}
 use Rattle.p3_util.proofs.views.vectors.reconstitute_from_base.Goals as goal
 
-pub loop-init : goal.loop-init
-loop-init g c = record { moved = search rules; left = search rules; cut = rw c.in-Ok.ensures.items (pieces-nil g.row.N); made = search rules; room = search rules }
-
 pub loop-preserved : goal.loop-preserved
-loop-preserved g c =
-    let before = c.loop.invariant in
-    let rows = c.loop.rows.items in
-    let count : length rows ≡ c.loop.counter = search (rules, before.made) in let all : length c.args.vec.items ≡ vec_len c.args.vec = search rules in
-    let parts = ap length before.moved ∙ length-append (flat rows) (into_iter_items c.loop.items) in
-    let len : length (flat rows) ≡ c.loop.counter * g.row.N = omega (arith, parts, all, before.left) in record {
-      moved = grind (arith, common_steps);
-      left = grind (arith, common_steps);
-      cut = rw c.push_reserved.ensures.items (cut-push g.row.N rows c.next_row.result before.cut (len ∙ ap (λ n. n * g.row.N) (sym count)) c.next_row.ensures.width c.requires.width);
-      made = search rules;
-      room = search rules;
-    }
+loop-preserved g c = record { moved = grind (arith, common_steps); left = grind (arith, common_steps); made = search rules; room = search rules }
 
 -- a further row has its items
 enough : (total left counter n : ℕ) → left + counter * n ≡ total → counter < total / n → n ≤ left
@@ -40,7 +24,7 @@ returns-clause-items g c =
     none_left c.args.vec.items (flat c.loop.rows.items) (into_iter_items c.loop.items) (vec_len c.args.vec) c.loop.counter g.row.N c.loop.invariant.moved c.loop.invariant.left (rw c.len-count.ensures at c.loop-test.false) c.requires.divides
 
 pub returns-clause-rows : goal.returns-clause-rows
-returns-clause-rows g c = sym c.loop.invariant.cut ∙ ap (λ l. pieces g.row.N l) (returns-clause-items g c)
+returns-clause-rows g c = sym c.deref.ensures.value ∙ sym (c.each_in_its_row.ensures.rows c.requires.width) ∙ ap (λ l. pieces g.row.N (flat l)) c.deref.ensures.value ∙ ap (pieces g.row.N) (returns-clause-items g c)
 
 pub next_row-requires : goal.next_row-requires
 next_row-requires g c = (search rules, enough _ _ _ _ c.loop.invariant.left (rw c.len-count.ensures at c.loop-test.true))
@@ -55,4 +39,4 @@ pub returns-clause-len : goal.returns-clause-len
 returns-clause-len g c = ap (λ k. k * g.row.N) (returns-clause-count g c) ∙ omega (arith, div-add-mod' (vec_len c.args.vec) g.row.N)
 
 pub returns-clause-places : goal.returns-clause-places
-returns-clause-places g c = IsFlat-pieces g.row.N _ _ (grind (arith, returns-clause-len g c)) (λ _. sym (returns-clause-rows g c))
+returns-clause-places g c = rw (← returns-clause-items g c, ← c.deref.ensures.value) c.each_in_its_row.ensures.places

@@ -1,7 +1,6 @@
 use Rattle.std.proofs.Common.{◌≡◌, ◌+◌, ◌*◌, ◌++◌, length, vec_len, vec_capacity}
 use Rattle.std.specs.Vec.Iter.{into_iter_items}
 use Rattle.p3_util.specs.Flat.{flat}
-use Rattle.p3_util.specs.Pieces.{pieces}
 use Rattle.p3_util.proofs.views.vectors.reconstitute_from_base.Given as goal
 
 -- the items so far are moved into whole rows, and there is room for all rows
@@ -9,7 +8,6 @@ abbrev pub invariant-loop : goal.invariant-loop
 invariant-loop g l = record {
   moved : l.fn.vec.items ≡ flat l.rows.items ++ into_iter_items l.items;
   left : length (into_iter_items l.items) + l.counter * g.row.N ≡ vec_len l.fn.vec;
-  cut : pieces g.row.N (flat l.rows.items) ≡ l.rows.items;
   made : vec_len l.rows ≡ l.counter;
   room : vec_capacity l.rows ≡ l.count;
 }

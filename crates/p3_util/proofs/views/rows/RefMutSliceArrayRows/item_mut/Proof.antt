@@ -1,55 +1,21 @@
 -- The walk through the code of `item_mut` on a `&mut` to rows. The rows are lent on from behind that reference, and
 -- then an item of them is lent. What is behind the reference at the end follows from the two loans.
-use Rattle.std.proofs.Common.{◌≡◌, ℕ, List, [], ◌∷◌, ◌<◌, ◌*◌, ◌^◌, refl, sym, ap, w64, MutBor, slice_set, slice_get, length, Option}
-use Rattle.std.proofs.raw_atomic.Walks.{proved}
-use base.Logic.{id⊢}
-use base.Fml.{GName, ftrue, fat, flft}
-use base.Fraction.{full_share}
-use mir.Syntax.{Fn, named, erased, mut, ty_ref, ty_param, ty_array_p}
-use mir.MapTy.{inst_fn}
-use mir.Val.{Val, vint}
-use prog.Memory.{size}
-use types.Kit.{‵, ◌⊛◌, raw, some, later, ◌$◌, ◌∵◌, !, qed, move, drop, split, join, fsplit, fsplit3, fjoin, use0, use1, use2, use3, split3, await, pick, rewrite, suffices, frame, done}
-use types.Run.{stop, addr, fld, hop, load, of_opd, no_more, and_then, returns, enter}
-use types.Part.{whole, sub, agg, look_in}
-use types.ByLocal.{alloc_all, pass_all, free_all, look_at, get, through, sets, lands_as}
-use contract.Monad.{fact}
-use contract.BorrowLft.{◌⊑◌}
-use contract.Running.{tables}
-use denote.Array.{Array}
-use denote.Builtin.{RefMutOf, SliceRefMutOf, usize}
-use denote.Exit.{yes, no}
-use denote.Follow.{follows}
-use denote.Laws.{shows}
-use denote.Memory.{cell_at}
-use denote.Param.{number, layout}
 use denote.Param.Laws.{of_field, row_shared}
 use denote.Param.Shared.{mut_ref_shared}
-use denote.Plain.{uint_vals, uint_Tells, uint_Makes}
-use denote.RattleType.{RattleType, owns}
-use denote.Ref.{MutRef, mut_vals, mut_Tells, at_last}
-use denote.Signature.{plain}
-use denote.Slice.{MutSlice, slice_ty, slice_val, mut_slice_vals, mut_slice_Tells}
-use denote.Steps.{nothing, heard, owned, peeks, opens, closes}
 use denote.Struct.Field.{mut_ref_field}
 use denote.Struct.Laws.{mut_ref_laws}
 use denote.Through.{lends_inner_slice, renamed}
-use denote.Triple.Call.{calls_at}
-use denote.Triple.Clauses.{Ended, Lasts, lasts}
-use denote.Triple.Spec.{triple_of}
-use denote.Triple.Table.{framed}
-use denote.Triple.Walked.{says, Stays, stay_dropped, walk_of, ends_at, Goes-dropped, Goes-spent_ref}
-use Rattle.std.specs.contracts.option.Option as option
 use Rattle.std.proofs.option.Option.TheLaws.{the_row_laws as option-laws}
 use Rattle.std.specs.Option.{option_copied_mut, ghost_name_of, OnSome}
 use Rattle.p3_util.specs.Flat.{countable_items, flat}
 use Rattle.p3_util.proofs.FlatLemmas.{countable-set, flat-set-len}
 use Rattle.p3_util.specs.RowLends.{lends_item_of_rows}
 use Rattle.p3_util.specs.ViewLends.{HasWritten, HasKept, lends_item}
-use Rattle.p3_util.proofs.Loans.{inst, Row, ItemArg, item_laws, known, on_some, so_then}
+use Rattle.p3_util.specs.contracts.views.rows.RefMutSliceArrayRows.item_mut.Key.{name as #self}
+use Rattle.p3_util.proofs.Loans.{◌≡◌, ℕ, List, [], ◌∷◌, ◌<◌, ◌*◌, ◌^◌, refl, sym, ap, w64, MutBor, slice_set, slice_get, length, Option, proved, id⊢, GName, ftrue, fat, flft, full_share, Fn, named, erased, mut, ty_ref, ty_param, ty_array_p, inst_fn, Val, vint, size, ‵, ◌⊛◌, raw, some, later, ◌$◌, ◌∵◌, !, qed, move, drop, split, join, fsplit, fsplit3, fjoin, use0, use1, use2, use3, split3, await, pick, rewrite, suffices, frame, done, stop, addr, fld, hop, load, of_opd, no_more, and_then, returns, enter, whole, sub, agg, look_in, alloc_all, pass_all, free_all, look_at, get, through, sets, lands_as, fact, ◌⊑◌, tables, Array, RefMutOf, SliceRefMutOf, usize, yes, no, follows, shows, cell_at, number, layout, uint_vals, uint_Tells, uint_Makes, RattleType, owns, MutRef, mut_vals, mut_Tells, at_last, plain, MutSlice, slice_ty, slice_val, mut_slice_vals, mut_slice_Tells, nothing, heard, owned, peeks, opens, closes, calls_at, Ended, Lasts, lasts, triple_of, framed, says, Stays, stay_dropped, walk_of, ends_at, Goes-dropped, Goes-spent_ref, inst, Row, ItemArg, item_laws, known, on_some, so_then}
+use Rattle.std.specs.contracts.option.Option as option
 use Rattle.p3_util.specs.contracts.views.loans.item_of_rows as item
 use Rattle.p3_util.specs.contracts.views.rows.RefMutSliceArrayRows.item_mut as F
-use Rattle.p3_util.specs.contracts.views.rows.RefMutSliceArrayRows.item_mut.Key.{name as #self}
 use Rattle.p3_util.proofs.views.loans.item_of_rows.Met as item-thm
 use Rattle.p3_util.proofs.views.rows.RefMutSliceArrayRows.item_mut.Statement as stated
 use Rattle.p3_util.proofs.views.rows.RefMutSliceArrayRows.item_mut.Code as code
