@@ -2,19 +2,12 @@
 
 #[derive(Clone, Copy)]
 pub enum Work {
-    /// A reversal of 2^log items.
-    Reverse {
-        log: u32,
-    },
-    /// A reversal of 2^log rows of `bytes` bytes each.
-    Rows {
-        bytes: usize,
-        log: u32,
-    },
-    Transpose {
-        width: usize,
-        height: usize,
-    },
+    /// A reversal of items, by the logarithm of their number.
+    Reverse(u32),
+    /// A reversal of rows, by the bytes of a row and the logarithm of their number.
+    Rows(usize, u32),
+    /// A transpose, by the width and the height.
+    Transpose(usize, usize),
 }
 
 #[derive(Clone)]
@@ -34,9 +27,9 @@ impl Case {
         let (a, b) = shape.split_once(['x', '^'])?;
         let (a, b): (usize, usize) = (a.parse().ok()?, b.parse().ok()?);
         let work = match call {
-            "reverse" => Work::Reverse { log: b as u32 },
-            "rows" if b.is_power_of_two() => Work::Rows { bytes: a, log: b.ilog2() },
-            "transpose" => Work::Transpose { width: a, height: b },
+            "reverse" => Work::Reverse(b as u32),
+            "rows" if b.is_power_of_two() => Work::Rows(a, b.ilog2()),
+            "transpose" => Work::Transpose(a, b),
             _ => return None,
         };
         let item_size = item.parse().ok()?;
@@ -51,15 +44,15 @@ impl Case {
     /// The number of items that move, or of rows.
     pub fn units(&self) -> usize {
         match self.work {
-            Work::Reverse { log } | Work::Rows { log, .. } => 1 << log,
-            Work::Transpose { width, height } => width * height,
+            Work::Reverse(log) | Work::Rows(_, log) => 1 << log,
+            Work::Transpose(width, height) => width * height,
         }
     }
 
     /// The number of items of a row that moves as a whole. Only the call on rows has more than one.
     pub fn row_width(&self) -> usize {
         match self.work {
-            Work::Rows { bytes, .. } => bytes / self.item_size,
+            Work::Rows(bytes, _) => bytes / self.item_size,
             _ => 1,
         }
     }
@@ -68,9 +61,9 @@ impl Case {
     pub fn source(&self, i: usize) -> usize {
         let (row, item) = (i / self.row_width(), i % self.row_width());
         let from = match self.work {
-            Work::Reverse { log: 0 } | Work::Rows { log: 0, .. } => row,
-            Work::Reverse { log } | Work::Rows { log, .. } => row.reverse_bits() >> (usize::BITS - log),
-            Work::Transpose { width, height } => row % height * width + row / height,
+            Work::Reverse(0) | Work::Rows(_, 0) => row,
+            Work::Reverse(log) | Work::Rows(_, log) => row.reverse_bits() >> (usize::BITS - log),
+            Work::Transpose(width, height) => row % height * width + row / height,
         };
         from * self.row_width() + item
     }

@@ -61,7 +61,7 @@ impl Task for Case {
 
     /// The contenders, which take turns. The last one is the copy. The original has no call for rows.
     fn contenders(&self) -> Vec<Contender> {
-        let rows = matches!(self.work, Work::Rows { .. });
+        let rows = matches!(self.work, Work::Rows(..));
         let mut found = vec![Contender::Proved];
         found.extend((cfg!(original) && !rows).then_some(Contender::Original));
         found.extend((cfg!(parallel) || self.parts.is_some()).then_some(Contender::Call));
@@ -134,7 +134,7 @@ impl<T: Item> Lists<T> {
             Contender::Original => self.original(times),
             #[cfg(before)]
             Contender::Before => self.package_before(times, parts),
-            Contender::Copy => repeat(times, &mut self.to, self.from.as_slice(), copy),
+            Contender::Copy => repeat(times, &mut self.to, self.from.as_slice(), <[T]>::copy_from_slice),
             #[cfg(not(all(original, before)))]
             _ => unreachable!("the benchmark was built without this contender"),
         }
@@ -166,9 +166,9 @@ impl<T: Item> Lists<T> {
     ) {
         let to = self.to.as_mut_slice();
         match self.case.work {
-            Work::Reverse { .. } => repeat(times, to, (), reverse),
-            Work::Rows { .. } => repeat(times, to, self.case.row_width(), reverse_rows),
-            Work::Transpose { width, height } => repeat(times, to, (self.from.as_slice(), width, height), transpose),
+            Work::Reverse(_) => repeat(times, to, (), reverse),
+            Work::Rows(..) => repeat(times, to, self.case.row_width(), reverse_rows),
+            Work::Transpose(width, height) => repeat(times, to, (self.from.as_slice(), width, height), transpose),
         }
     }
 
@@ -179,21 +179,6 @@ impl<T: Item> Lists<T> {
         let wanted = if contender == Contender::Copy { self.from.as_slice() } else { wanted };
         assert!(self.to == wanted, "wrong: {}", self.case.name);
     }
-}
-
-#[cfg(not(parallel))]
-fn copy<T: Item>(to: &mut [T], from: &[T]) {
-    to.copy_from_slice(from);
-}
-
-/// Copies the list on all threads.
-#[cfg(parallel)]
-fn copy<T: Item>(to: &mut [T], from: &[T]) {
-    use rayon::prelude::*;
-
-    let len = to.len().div_ceil(rayon::current_num_threads());
-    let chunks = to.par_chunks_mut(len).zip(from.par_chunks(len));
-    chunks.for_each(|(to, from)| to.copy_from_slice(from));
 }
 
 /// Makes the call `times` times. Each call has a loop of its own, so that little time is spent elsewhere, and the

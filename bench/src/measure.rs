@@ -27,7 +27,7 @@ pub enum Contender {
     Call,
     /// The package of another checkout.
     Before,
-    /// A copy of the same bytes.
+    /// A copy of the same bytes on one thread.
     Copy,
 }
 
