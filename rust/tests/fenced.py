@@ -19,55 +19,52 @@ STORE = re.compile(r"v?movnt(?!dqa)")
 PUT_LINES, PUT_LINES_BY = re.compile(r".*5lines\w*5Panel"), 3
 
 
-class Function:
-    """The instructions of a function: of each its address, its name, the rest of the line, and the symbol that it names."""
+def callees(code, at):
+    """The functions that an instruction may call, or jump to. Through a register or memory, these are all whose address the
+    function loads."""
+    _, name, rest, symbol = code[at]
+    if not name.startswith(("call", "jmp")):
+        return set()
+    if symbol or "*" not in rest:
+        return {symbol or re.search(r"<([^>+]+)|$", rest)[1]}
+    return {symbol for _, name, _, symbol in code if symbol and name.startswith(("mov", "lea"))}
 
-    def __init__(self):
-        self.code = []
 
-    def callees(self, at):
-        """The functions that an instruction may call, or jump to. Through a register or memory, these are all whose
-        address the function loads."""
-        _, name, rest, symbol = self.code[at]
-        if not name.startswith(("call", "jmp")):
-            return set()
-        if symbol or "*" not in rest:
-            return {symbol or re.search(r"<([^>+]+)|$", rest)[1]}
-        return {symbol for _, name, _, symbol in self.code if symbol and name.startswith(("mov", "lea"))}
+def after(code, at):
+    """The instructions that may come next. None stands for the end of the function."""
+    _, name, rest, symbol = code[at]
+    following = [at + 1] if at + 1 < len(code) else []
+    if name.startswith(("ret", "ud2")) or not name.startswith("j"):
+        return [None] if name.startswith("ret") else [] if name == "ud2" else following
+    if name == "jmp" and "*" in rest and not symbol:
+        # A table of addresses is not read here, so this may be anywhere in the function.
+        return range(len(code))
+    address = int(re.search(r"([0-9a-f]+) <|$", rest)[1] or "0", 16)
+    target = next((to for to, other in enumerate(code) if other[0] == address), None)
+    return [None if symbol else target, *(following if name != "jmp" else [])]
 
-    def after(self, at):
-        """The instructions that may come next. None stands for the end of the function."""
-        _, name, rest, symbol = self.code[at]
-        following = [at + 1] if at + 1 < len(self.code) else []
-        if name.startswith(("ret", "ud2")) or not name.startswith("j"):
-            return [None] if name.startswith("ret") else [] if name == "ud2" else following
-        if name == "jmp" and "*" in rest and not symbol:
-            # A table of addresses is not read here, so this may be anywhere in the function.
-            return range(len(self.code))
-        address = int(re.search(r"([0-9a-f]+) <|$", rest)[1] or "0", 16)
-        target = next((to for to, other in enumerate(self.code) if other[0] == address), None)
-        return [None if symbol else target, *(following if name != "jmp" else [])]
 
-    def leaves_stores(self, leaving):
-        """Whether it may return before the `sfence` that has to come after a store past the caches."""
-        waiting = [at for at, found in enumerate(self.code) if STORE.match(found[1]) or self.callees(at) & leaving]
-        seen = set(waiting)
-        while waiting:
-            for to in self.after(waiting.pop()):
-                if to is None:
-                    return True
-                if to not in seen and self.code[to][1] != "sfence":
-                    seen.add(to)
-                    waiting.append(to)
-        return False
+def leaves_stores(code, leaving):
+    """Whether a function may return before the `sfence` that has to come after a store past the caches."""
+    waiting = [at for at, found in enumerate(code) if STORE.match(found[1]) or callees(code, at) & leaving]
+    seen = set(waiting)
+    while waiting:
+        for to in after(code, waiting.pop()):
+            if to is None:
+                return True
+            if to not in seen and code[to][1] != "sfence":
+                seen.add(to)
+                waiting.append(to)
+    return False
 
 
 def functions(lines):
-    """The functions of a disassembly, by their names."""
+    """The instructions of each function of a disassembly, by its name: of each its address, its name, the rest of the line, and
+    the symbol that it names."""
     found, code = {}, []
     for line in lines:
         if head := HEAD.match(line):
-            code = found.setdefault(head[1], Function()).code
+            code = found.setdefault(head[1], [])
         elif (symbol := SYMBOL.match(line)) and code:
             code[-1][3] = symbol[1]
         elif instruction := INSTRUCTION.match(line):
@@ -77,10 +74,10 @@ def functions(lines):
 
 def main():
     found, leaving = functions(sys.stdin), set()
-    storing = [name for name, function in found.items() if PUT_LINES.match(name) and any(STORE.match(code[1]) for code in function.code)]
+    storing = [name for name, code in found.items() if PUT_LINES.match(name) and any(STORE.match(step[1]) for step in code)]
     if len(storing) < PUT_LINES_BY:
         print(f"only {len(storing)} functions that put lines store past the caches, instead of {PUT_LINES_BY}")
-    while new := {name for name in found.keys() - leaving if found[name].leaves_stores(leaving)}:
+    while new := {name for name in found.keys() - leaving if leaves_stores(found[name], leaving)}:
         leaving |= new
     users = sorted(name for name in leaving if "p3_util_proved" not in name)
     print(*users, sep="\n", end="\n" if users else "")

@@ -190,9 +190,9 @@ fn panics(call: impl FnOnce()) -> bool {
     catch_unwind(AssertUnwindSafe(call)).is_err()
 }
 
-/// What each step refuses if it tests its precondition.
+/// The preconditions that each step tests.
 #[cfg(any(debug_assertions, feature = "checked"))]
-mod refused {
+mod preconditions {
     use super::*;
 
     #[test]
