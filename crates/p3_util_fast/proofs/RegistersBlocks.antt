@@ -13,20 +13,15 @@ use Rattle.p3_util_fast.proofs.RegistersTiles.{AreDisjoint-rows, SquaresMoved-ro
 column_before : (a b height : ℕ) → a < b → a * height + height ≤ b * height
 column_before a b height h = omega (arith, mul-le-mul_right {m = a + 1} {n = b} height (omega arith))
 
--- what is in a row of a block is also a row that comes again
-row_in_block : (side c : ℕ) → (side ≡ 4) ⊎ (side ≡ 8) → (c % side < side) × (c < side → c % side ≡ c)
-row_in_block side c (inl is) = rw is (omega arith, λ h. omega arith)
-row_in_block side c (inr is) = rw is (omega arith, λ h. omega arith)
-
 module _ (side : ℕ) (block : Block) (col input_len len : ℕ) (is : IsSide side) (known : (block.rows ≡ 4) ⊎ (block.rows ≡ 8))
     (below : col + side ≤ block.rows) (square : block.cols ≡ block.rows) (fits : BlockFits block input_len len) (rows cols : List ℕ)
     (at_rows : (c : ℕ) → c < 8 → slice_index rows c ≡ block.from + c % block.rows * block.width)
     (at_cols : (c : ℕ) → c < 8 → slice_index cols c ≡ block.to + c % block.rows * block.height) where
   in_all : (c : ℕ) → c < block.rows → c < 8
-  in_all c h = elim known [ inl u ↦ omega arith | inr u ↦ omega arith ]
+  in_all c h = grind (arith, known)
 
   at_col : (c : ℕ) → c < block.rows → slice_index cols c ≡ block.to + c * block.height
-  at_col c h = rw ((row_in_block block.rows c known).1 h) at (at_cols c (in_all c h))
+  at_col c h = let same : c % block.rows ≡ c = grind (arith, known) in rw same at (at_cols c (in_all c h))
 
   apart : (a b : ℕ) → a < b → b < block.rows → (slice_index cols a + block.rows ≤ slice_index cols b) ⊎ (slice_index cols b + block.rows ≤ slice_index cols a)
   apart a b h k = inl (omega (arith, at_col a (omega arith), at_col b k, fits.apart, column_before a b block.height h))
@@ -45,7 +40,7 @@ module _ (side : ℕ) (block : Block) (col input_len len : ℕ) (is : IsSide sid
         → AreColumns side from input columns → AreStored block.rows side to columns old new → ColumnsPut col (col + side) block input old new
     ColumnsPut-step from columns input old new at_from of stored =
         let moved = SquaresMoved-rows block.rows side known is (omega arith) (λ s. col) cols (replicate 8 col) to (λ c h. below) is_top at_row rows from columns input old new (λ c h. at_from c (in_all c h)) of stored in
-        let from_is : (r : ℕ) → r < block.rows → slice_index rows r ≡ block.from + r * block.width = λ r h. rw ((row_in_block block.rows r known).1 h) at (at_rows r (in_all r h)) in
+        let from_is : (r : ℕ) → r < block.rows → slice_index rows r ≡ block.from + r * block.width = λ r h. let same : r % block.rows ≡ r = grind (arith, known) in rw same at (at_rows r (in_all r h)) in
         record {
           same_length = moved.same_length;
           places = λ r c hr h k. rw (at_col c (omega arith), from_is r hr) at (moved.places c r hr h k);

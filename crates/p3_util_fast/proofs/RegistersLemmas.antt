@@ -44,15 +44,10 @@ eight places from list a b d order one mid last c r hc hr =
 
 -- each place is one of those
 pub AreReached-in_order : (side : ℕ) (may : ℕ → Type 0) (places from : List ℕ) → IsSide side → AreInOrder side places from → AreReached 8 places may → AreReached 8 from may
-AreReached-in_order side may places from (inl is) order inside j h =
-    let of : 4 * (j / 4) + j % 4 ≡ j = omega arith in
-    rw (rw of at (rw is at order (j % 4) (j / 4) (omega arith) (omega arith))) (inside _ (omega arith))
-AreReached-in_order side may places from (inr (inl is)) order inside j h =
-    let of : 2 * (j / 2) + j % 2 ≡ j = omega arith in
-    rw (rw of at (rw is at order (j % 2) (j / 2) (omega arith) (omega arith))) (inside _ (omega arith))
-AreReached-in_order side may places from (inr (inr is)) order inside j h =
-    let of : 1 * j + 0 ≡ j = omega arith in
-    rw (rw of at (rw is at order 0 j h (omega arith))) (inside _ (omega arith))
+AreReached-in_order side may places from is order inside j h =
+    let n = 8 / side in
+    let of : n * (j / n) + j % n ≡ j = grind (arith, is) in
+    rw (rw of at (order (j % n) (j / n) (grind (arith, is)) (grind (arith, is)))) (inside _ (grind (arith, is)))
 
 -- nothing is stored yet
 pub AreStored-none : {A : Type 0} (side : ℕ) (to : List ℕ) (regs : List (List A)) (old : List A) → AreStored 0 side to regs old old

@@ -1,5 +1,6 @@
 -- Tiles that are exchanged or transposed by squares.
 use Rattle.std.proofs.Common.{◌≡◌, ◌≢◌, ℕ, ◌+◌, ◌-◌, ◌%◌, ◌<◌, ◌≤◌, ◌⊎◌, List, length, slice_get, slice_index, inl, inr, refl, sym, ap, ◌∙◌, arith}
+use Rattle.std.proofs.Math.Nat.{mod-le}
 use Rattle.std.proofs.lemmas.Bool.{cases_eq, cases_lt}
 use Rattle.p3_util_fast.specs.Tiles.{AreTiles, IsTile, TileTurned, TilesExchanged}
 use Rattle.p3_util_fast.specs.Registers.{AreDisjoint, AreColumns, AreReached, AreStored, IsSide, RowsExchanged, RowsReached, SquaresTurned, sum_of}
@@ -7,38 +8,24 @@ use Rattle.p3_util_fast.proofs.BulkLemmas.Tiles.{one_row, places-apart}
 use Rattle.p3_util_fast.proofs.GridLemmas.Crossing.{outside}
 use Rattle.p3_util_fast.proofs.RegistersSquares.{other_places}
 
--- what holds for each side holds for any
-pub side_cases : (P : ℕ → Type 0) → P 2 → P 4 → P 8 → (side : ℕ) → IsSide side → P side
-side_cases P a b d side (inl is) = rw is a
-side_cases P a b d side (inr (inl is)) = rw is b
-side_cases P a b d side (inr (inr is)) = rw is d
-
 pub side_most : (side : ℕ) → IsSide side → side ≤ 8
-side_most = side_cases (λ side. side ≤ 8) (omega arith) (omega arith) (omega arith)
+side_most side is = grind (arith, is)
 
 -- row c of some squares is row c % side of a square
 pub row_below : (side : ℕ) → IsSide side → (c : ℕ) → c % side < side
-row_below = side_cases (λ side. (c : ℕ) → c % side < side) (λ c. omega arith) (λ c. omega arith) (λ c. omega arith)
-
-pub row_most : (side : ℕ) → IsSide side → (c : ℕ) → c % side ≤ c
-row_most = side_cases (λ side. (c : ℕ) → c % side ≤ c) (λ c. omega arith) (λ c. omega arith) (λ c. omega arith)
+row_below side is c = grind (arith, is)
 
 -- the squares of all rows are whole
-pub square_up : (side : ℕ) → IsSide side → (n c : ℕ) → (n ≡ 4) ⊎ (n ≡ 8) → side ≤ n → c < n → c - c % side + side ≤ n
-square_up = side_cases (λ side. (n c : ℕ) → (n ≡ 4) ⊎ (n ≡ 8) → side ≤ n → c < n → c - c % side + side ≤ n)
-    (λ n c k m h. elim k [ inl u ↦ omega arith | inr u ↦ omega arith ]) (λ n c k m h. elim k [ inl u ↦ omega arith | inr u ↦ omega arith ])
-    (λ n c k m h. elim k [ inl u ↦ omega arith | inr u ↦ omega arith ])
+square_up : (side : ℕ) → IsSide side → (n c : ℕ) → (n ≡ 4) ⊎ (n ≡ 8) → side ≤ n → c < n → c - c % side + side ≤ n
+square_up side is n c known small h = grind (arith, is, known)
 
 -- row l of the square of row c
-pub row_in_square : (side : ℕ) → IsSide side → (c l : ℕ) → l < side → (c - c % side + l) % side ≡ l
-row_in_square = side_cases (λ side. (c l : ℕ) → l < side → (c - c % side + l) % side ≡ l) (λ c l h. omega arith) (λ c l h. omega arith) (λ c l h. omega arith)
+row_in_square : (side : ℕ) → IsSide side → (c l : ℕ) → l < side → (c - c % side + l) % side ≡ l
+row_in_square side is c l h = grind (arith, is)
 
 -- two rows are in the same square, or in squares side by side
 squares_apart : (side : ℕ) → IsSide side → (a b : ℕ) → a < b → (a - a % side ≡ b - b % side) ⊎ (a - a % side + side ≤ b - b % side)
-squares_apart = side_cases (λ side. (a b : ℕ) → a < b → (a - a % side ≡ b - b % side) ⊎ (a - a % side + side ≤ b - b % side))
-    (λ a b h. elim (cases_lt (a - a % 2) (b - b % 2)) [ inl u ↦ inr (omega arith) | inr u ↦ inl (omega arith) ])
-    (λ a b h. elim (cases_lt (a - a % 4) (b - b % 4)) [ inl u ↦ inr (omega arith) | inr u ↦ inl (omega arith) ])
-    (λ a b h. elim (cases_lt (a - a % 8) (b - b % 8)) [ inl u ↦ inr (omega arith) | inr u ↦ inl (omega arith) ])
+squares_apart side is a b h = grind (arith, is)
 
 -- Some squares of the transpose are in n columns of a list. The square of column c begins in row `top` of its first
 -- column. Row r of the list begins at entry r of `x`, and row c of the input at entry c of `y`
@@ -70,7 +57,7 @@ module _ (n side : ℕ) (known : (n ≡ 4) ⊎ (n ≡ 8)) (is : IsSide side) (sm
         | inl same ↦
             let on : slice_index x row_a ≡ slice_index x row_b = ap (slice_index x) same in
             elim (squares_apart side is a b h) [
-              | inl one ↦ let tops : top (a - a % side) ≡ top (b - b % side) = ap top one in absurd (omega (arith, row_most side is a, row_most side is b))
+              | inl one ↦ let tops : top (a - a % side) ≡ top (b - b % side) = ap top one in absurd (omega (arith, mod-le a side, mod-le b side))
               | inr next ↦ inl (omega arith)
             ]
         | inr other ↦ grind (arith, other, at_a, at_b, up_a, up_b, in_a, in_b, apart row_a row_b, apart row_b row_a)
@@ -96,7 +83,7 @@ module _ (n side : ℕ) (known : (n ≡ 4) ⊎ (n ≡ 8)) (is : IsSide side) (sm
     same_length = step.same_length;
     places = λ r c h k l.
         let (inside, (row, start)) = placed r c h k l in
-        let most = row_most side is c in
+        let most = mod-le c side in
         let to_is : slice_index to (place r c) + c % side ≡ slice_index x r + c = omega (arith, start, most) in
         let back : place r c - (r - top (c - c % side)) + c % side ≡ c = omega (arith, most) in
         let from_is : slice_index from c + (r - top (c - c % side)) ≡ slice_index y c + r = omega (arith, at_from c h, is_top c h) in
@@ -106,7 +93,7 @@ module _ (n side : ℕ) (known : (n ≡ 4) ⊎ (n ≡ 8)) (is : IsSide side) (sm
         step.others p (λ j m.
         let on = at j m in
         let up = square_up side is n j known small m in
-        let most = row_most side is j in
+        let most = mod-le j side in
         outside p (slice_index to j) side (λ t within e.
         let row = row_in_square side is j t (omega arith) in
         let start : j - j % side + t - (j - j % side + t) % side ≡ j - j % side = omega (arith, row) in
@@ -131,7 +118,7 @@ module _ (x y : List ℕ) (len : ℕ) (tiles : AreTiles x y len) where
         second = λ r c h k l.
             let (inside, (row_in, start)) = placed 8 side (inr refl) is small (λ s. row) x tops in_x (λ c h. below) is_top at_x r c l h k in
             let to_is : slice_index in_y c + (r - row) ≡ slice_index y c + r = omega (arith, at_y c l, is_top c l) in
-            let from_is : slice_index in_x (c - c % side + (r - row)) + c % side ≡ slice_index x r + c = omega (arith, start, row_most side is c) in
+            let from_is : slice_index in_x (c - c % side + (r - row)) + c % side ≡ slice_index x r + c = omega (arith, start, mod-le c side) in
             moved.others (slice_index y c + r) (λ v w hw i j e. places-apart x y len tiles v w c r (omega arith) hw l (omega arith) (sym e))
             ∙ rw to_is at (one.rows c (r - row) l (omega arith)) ∙ rw from_is at (of_x c (r - row) l (omega arith));
         others = λ p out.
@@ -177,16 +164,14 @@ abbrev pub opposite : ℕ → ℕ → ℕ
 opposite s q = (8 + s - q) % 8
 
 pub opposite_up : (side : ℕ) → IsSide side → (s c : ℕ) → s < 8 → s % side ≡ 0 → opposite s (c - c % side) + side ≤ 8
-opposite_up = side_cases (λ side. (s c : ℕ) → s < 8 → s % side ≡ 0 → opposite s (c - c % side) + side ≤ 8) (λ s c h e. omega arith) (λ s c h e. omega arith) (λ s c h e. omega arith)
+opposite_up side is s c h e = grind (arith, is)
 
 opposite_row : (side : ℕ) → IsSide side → (s r c : ℕ) → r < 8 → c < 8 → s < 8 → s % side ≡ 0 → s ≤ sum_of side r c → sum_of side r c < s + side
     → opposite s (c - c % side) + r % side ≡ r
-opposite_row = side_cases (λ side. (s r c : ℕ) → r < 8 → c < 8 → s < 8 → s % side ≡ 0 → s ≤ sum_of side r c → sum_of side r c < s + side → opposite s (c - c % side) + r % side ≡ r)
-    (λ s r c hr hc hs e h k. omega arith) (λ s r c hr hc hs e h k. omega arith) (λ s r c hr hc hs e h k. omega arith)
+opposite_row side is s r c hr hc hs e h k = grind (arith, is)
 
 opposite_sum : (side : ℕ) → IsSide side → (s r c : ℕ) → c < 8 → s < 8 → s % side ≡ 0 → opposite s (c - c % side) ≤ r → r < opposite s (c - c % side) + side → sum_of side r c ≡ s
-opposite_sum = side_cases (λ side. (s r c : ℕ) → c < 8 → s < 8 → s % side ≡ 0 → opposite s (c - c % side) ≤ r → r < opposite s (c - c % side) + side → sum_of side r c ≡ s)
-    (λ s r c hc hs e h k. omega arith) (λ s r c hc hs e h k. omega arith) (λ s r c hc hs e h k. omega arith)
+opposite_sum side is s r c hc hs e h k = grind (arith, is)
 
 module _ (x : List ℕ) (len : ℕ) (tile : IsTile x len) where
   -- the squares of one sum are read, and each is written over its mirror image

@@ -333,7 +333,7 @@ const fn fills_a_run<T, D: Register<T, Half: Run>>() -> bool {
 /// Runs of the items, which fill half a register `D`. Here a run `may` be read and written if all of it is among the places
 /// of the step that is made, which are within the list by the precondition of the step's method. A holder with
 /// `PAST_CACHES` `may_stream` it if it also begins at a multiple of 16 bytes, and a fence follows before the call or the part
-/// ends. A run of a source `may` be anywhere in the list. The functions of `kernels/registers.rs` are proved to touch no other
+/// ends. A run of a source `may` be anywhere in the list. The functions of `kernels::registers` are proved to touch no other
 /// run, whatever `may` and `may_stream` are. So that method may call them if it names no place but those of its step, and no
 /// run that ends after the source.
 impl<T, E, D: Register<T, Half: Run>, const PAST_CACHES: bool> Loads<T, D> for SliceItems<'_, T, E, PAST_CACHES> {

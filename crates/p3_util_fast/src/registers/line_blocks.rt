@@ -45,7 +45,8 @@ fn stream_two<T, D: Register<T>, M: Runs<T, D>>(list: &mut M, first: usize, seco
 fn put_line<T, D: Register<T>, M: Runs<T, D>>(list: &mut M, block: Block, col: usize, a: D, b: D)
     requires some_side { 0 < D.SIDE }
     requires line { block.rows ≡ 4 * D.SIDE }
-    requires room { (r : ℕ) → r < block.rows → block.to + col * block.height + r < length (M.items list.old) }
+    requires below { col < block.cols }
+    requires room { (r c : ℕ) → r < block.rows → c < block.cols → block.to + c * block.height + r < length (M.items list.old) }
     requires len_fits { length (M.items list.old) < 2 ^ 63 }
     requires reached { (k : ℕ) → k < 4 → M.may_stream (M.reach list.old) (block.to + col * block.height + k * D.SIDE) }
     ensures stored { IsRunStored block.rows (block.to + col * block.height) (D.items a ++ D.items b)
@@ -105,7 +106,7 @@ fn put_one_line<T, D: Register<T>, S: Loads<T, D>, M: Runs<T, D>>(
     requires lines { block.rows ≡ 4 * D.SIDE }
     requires one { block.cols ≡ 1 }
     requires inside { (r : ℕ) → r < block.rows → block.from + r * block.width + D.SIDE ≤ length (S.items source.now) }
-    requires room { block.to + block.rows ≤ length (M.items cells.old) }
+    requires block { BlockFits block (length (S.items source.now)) (length (M.items cells.old)) }
     requires reads { ColumnsReached D.SIDE block (S.may (S.reach source.now)) }
     requires writes { LinesReached D.SIDE block (M.may_stream (M.reach cells.old)) }
     requires source_len_fits { length (S.items source.now) < 2 ^ 63 }

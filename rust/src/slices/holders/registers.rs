@@ -1,5 +1,5 @@
 //! How vector registers of x86-64 and aarch64 are interleaved and halved, to transpose tiles and blocks of items of 1, 2, 4
-//! and 8 bytes. `holders.rs` reads and writes halves. Proved code (`kernels/registers.rs`) decides which, and where.
+//! and 8 bytes. `holders.rs` reads and writes halves. Proved code (`kernels::registers`) decides which, and where.
 //!
 //! Items may be pointers, or have bytes that were never written, so a register must never be read as a number. It is a
 //! [`MaybeUninit`], and a copy of it keeps each byte, and the provenance of each pointer. The shuffles of `core::arch` take

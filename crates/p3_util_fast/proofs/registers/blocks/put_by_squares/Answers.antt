@@ -1,5 +1,5 @@
 -- The columns of the block are put from the first to the last.
-use Rattle.std.proofs.Common.{◌≡◌, ◌+◌, ◌*◌, arith}
+use Rattle.std.proofs.Common.{◌≡◌, ◌+◌, arith}
 use Rattle.p3_util_fast.proofs.RegistersBlocks.{ColumnsPut-joined, IsBlockPut-whole}
 use Rattle.p3_util_fast.proofs.registers.blocks.put_by_squares.Goals as goal
 

@@ -1,20 +1,17 @@
 -- The columns that are in registers are put from the first to the last.
-use Rattle.std.proofs.Common.{◌≡◌, ◌+◌, ◌-◌, ◌≤◌, inr, refl, arith}
+use Rattle.std.proofs.Common.{◌≡◌, ◌+◌, inr, refl, arith}
 use Rattle.p3_util_fast.specs.Registers.{items_of_four}
-use Rattle.p3_util_fast.proofs.RegistersBlocks.{ColumnsPut-joined}
+use Rattle.p3_util_fast.proofs.RegistersBlocks.{ColumnsPut-joined, run_inside}
 use Rattle.p3_util_fast.proofs.RegistersLines.{ColumnsPut-of_8, ColumnsPut-of_16}
 use Rattle.p3_util_fast.proofs.RegistersSteps.{four_times}
 use Rattle.p3_util_fast.proofs.registers.line_blocks.put_some_lines.Goals as goal
 
 pub load_lines-top-requires-clause-inside : goal.load_lines-top-requires-clause-inside
 load_lines-top-requires-clause-inside g c r h =
-    let at_least : 2 ≤ g.D.Register.SIDE = grind (arith, c.requires.some_side) in
-    omega (arith, at_least, c.requires.block.inside r (c.args.col + g.D.Register.SIDE - 1) (omega (arith, c.requires.lines, at_least)) (omega (arith, c.requires.below, at_least)))
+    omega (arith, run_inside c.args.block _ g.D.Register.SIDE r c.args.col c.requires.block.inside (grind (arith, c.requires.some_side)) (grind (arith, c.requires.lines, c.requires.some_side)) c.requires.below)
 
 pub load_lines-top-requires-clause-reached : goal.load_lines-top-requires-clause-reached
-load_lines-top-requires-clause-reached g c r h =
-    let at_least : 2 ≤ g.D.Register.SIDE = grind (arith, c.requires.some_side) in
-    grind (arith, c.requires.reads r c.args.col (omega (arith, c.requires.lines, at_least)) (inr c.requires.below))
+load_lines-top-requires-clause-reached g c r h = grind (arith, c.requires.reads r c.args.col (grind (arith, c.requires.lines, c.requires.some_side)) (inr c.requires.below))
 
 pub overflow_add-from : goal.overflow_add-from
 overflow_add-from g c = grind (arith, c.requires.some_side, c.requires.block.inside 0 c.args.col)
@@ -39,20 +36,9 @@ load_lines-bottom-requires-clause-reached g c r h =
     let half : g.D.Register.SIDE ≡ 4 = grind (arith, c.requires.some_side, c.SIDE-side.ensures, c.if-side-eq2.false) in
     grind (arith, c.requires.reads (8 + r) c.args.col (omega (arith, half, c.requires.lines)) (inr c.requires.below))
 
-pub put_line-requires-then-side-eq2-clause-room : goal.put_line-requires-then-side-eq2-clause-room
-put_line-requires-then-side-eq2-clause-room g c r h = omega (arith, c.requires.block.room r (c.args.col + 1) h (grind (arith, c.requires.below, c.requires.some_side)), c.put_line.ensures.stored.same_length)
-
-pub put_line-requires-2-clause-room : goal.put_line-requires-2-clause-room
-put_line-requires-2-clause-room g c r h = omega (arith, c.requires.block.room r (c.args.col) h (grind (arith, c.requires.below, c.requires.some_side, c.SIDE-side.ensures, c.if-side-eq2.false)))
-
-pub put_line-requires-3-clause-room : goal.put_line-requires-3-clause-room
-put_line-requires-3-clause-room g c r h = omega (arith, c.requires.block.room r (c.args.col + 1) h (grind (arith, c.requires.below, c.requires.some_side, c.SIDE-side.ensures, c.if-side-eq2.false)), c.put_line-2.ensures.stored.same_length)
-
-pub put_line-requires-4-clause-room : goal.put_line-requires-4-clause-room
-put_line-requires-4-clause-room g c r h = omega (arith, c.requires.block.room r (c.args.col + 2) h (grind (arith, c.requires.below, c.requires.some_side, c.SIDE-side.ensures, c.if-side-eq2.false)), c.put_line-2.ensures.stored.same_length, c.put_line-3.ensures.stored.same_length)
-
 pub put_line-requires-5-clause-room : goal.put_line-requires-5-clause-room
-put_line-requires-5-clause-room g c r h = omega (arith, c.requires.block.room r (c.args.col + 3) h (grind (arith, c.requires.below, c.requires.some_side, c.SIDE-side.ensures, c.if-side-eq2.false)), c.put_line-2.ensures.stored.same_length, c.put_line-3.ensures.stored.same_length, c.put_line-4.ensures.stored.same_length)
+put_line-requires-5-clause-room g c r d h k =
+    omega (arith, c.requires.block.room r d h k, c.put_line-2.ensures.stored.same_length, c.put_line-3.ensures.stored.same_length, c.put_line-4.ensures.stored.same_length)
 
 pub returns-then-side-eq2-clause-put : goal.returns-then-side-eq2-clause-put
 returns-then-side-eq2-clause-put g c =
