@@ -8,8 +8,7 @@ use Rattle.std.proofs.lemmas.Bool.{le-ltb}
 use Rattle.p3_util.specs.Flat.{IsFlat, countable_items, flat}
 use Rattle.p3_util.specs.Pieces.{pieces}
 use Rattle.p3_util.proofs.PiecesLemmas.{pieces-more, pieces-nil}
-use Rattle.p3_util.proofs.TwoLists.{in-front, behind, swap-sym}
-use Rattle.p3_util.proofs.JoinedLists.{set-behind, across}
+use Rattle.p3_util.proofs.JoinedLists.{set-behind, across, in-front, behind, swap-sym}
 
 module _ {A : Type 0} where
   -- where row r begins

@@ -7,9 +7,7 @@ pub mod JsonLists
 pub mod Loans
 pub mod MapLemmas
 pub mod Moved
-pub mod OneAnswer
 pub mod PaddedRuns
 pub mod PiecesLemmas
-pub mod TwoLists
 pub mod WholePieces
 pub mod ZipEqRuns

@@ -74,6 +74,7 @@ pub trait ArrayElement: Default {
 ///
 /// `AllocError` if there is no memory for the list or for an element. An array without items needs
 /// no memory.
+#[tactic(auto, using(std::proofs::lemmas::Grind::common_steps))]
 pub fn serialize<T: ArrayElement, const N: usize>(
     alloc: Global,
     items: &[T; N],

@@ -191,6 +191,7 @@ impl<K: Eq + Drop, V> LinearMap<K, V> {
 impl<K: Eq + Drop, V: Drop> LinearMap<K, V> {
     /// The map of the pairs of `it`, inserted in order. If memory runs out, the pairs that were
     /// taken are dropped.
+    #[tactic(auto, using(std::proofs::lemmas::Grind::common_steps))]
     pub fn try_from_iter<I: IntoIterator<Item = (K, V)>>(
         alloc: Global,
         it: I,
@@ -258,6 +259,7 @@ impl<K: Eq + Drop, V: Drop> IntoIterator for LinearMap<K, V> {
 
     ghost into_iter_gives = { λ m r. OwnsInOrder m r × HasDistinctKeys K.eq m };
 
+    #[tactic(auto, using(std::proofs::lemmas::Grind::common_steps))]
     fn into_iter(self) -> vec::IntoIter<(K, V)> {
         self.pairs.into_iter()
     }

@@ -44,6 +44,7 @@ pub(super) fn each_in_its_row<T, const N: usize>(rows: &[[T; N]]) -> bool
 }
 
 /// The row that has item `i` of all rows, and the item's index in that row.
+#[tactic(auto, using(std::proofs::lemmas::Grind::common_steps))]
 #[inline(always)]
 pub(super) fn place_of<T, const N: usize>(rows: &[[T; N]], i: usize) -> (usize, usize)
     requires { i < length (countable_items rows.now) }

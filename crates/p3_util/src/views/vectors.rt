@@ -93,6 +93,7 @@ pub fn reconstitute_from_base<Base: Default + Drop, const N: usize>(
 }
 
 /// The next `N` items, as an array.
+#[tactic(auto, using(std::proofs::lemmas::Grind::common_steps))]
 fn next_row<T: Default + Drop, const N: usize>(items: &mut IntoIter<T>) -> [T; N]
     requires { N ≤ length (into_iter_items items.old) }
     ensures items { into_iter_items items.old ≡ result ++ into_iter_items items.new }

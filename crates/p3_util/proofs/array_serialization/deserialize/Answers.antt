@@ -3,8 +3,7 @@
 use Rattle.std.proofs.Common.{map, take, ◌∙◌, length-set, arith}
 use Rattle.std.proofs.lemmas.List.{length-map}
 use Rattle.serde_json.specs.View.{view}
-use Rattle.p3_util.proofs.JsonLists.{slice_get-view, AreReadAs-more, AreReadAs-first, AreReadAs-whole, IsArrayAnswer-at_list}
-use Rattle.p3_util.proofs.OneAnswer.{only_answer}
+use Rattle.p3_util.proofs.JsonLists.{slice_get-view, AreReadAs-more, AreReadAs-first, AreReadAs-whole, IsArrayAnswer-at_list, only_answer}
 use Rattle.p3_util.proofs.array_serialization.deserialize.Goals as goal
 
 pub returns-in-Err-clause-answer : goal.returns-in-Err-clause-answer

@@ -1,6 +1,5 @@
 -- The row of an item is one of the rows, and begins at the place that the code computes.
 use Rattle.std.proofs.Common.{ℕ, zero, suc, ◌*◌, ◌/◌, ◌<◌, ◌≡◌, ◌∙◌, ap, length, sym, div-lt_iff_lt-mul, length-take-le, arith}
-use Rattle.std.proofs.lemmas.Grind.{common_steps}
 use Rattle.std.proofs.lemmas.Nat.{div-add-mod', mod_below}
 use Rattle.p3_util.proofs.views.places.place_of.Goals as goal
 
@@ -31,9 +30,3 @@ returns-clause-item g c = sym (div-add-mod' c.args.i g.row.N)
 
 pub slice_bounds-as_flattened-end : goal.slice_bounds-as_flattened-end
 slice_bounds-as_flattened-end g c = sym (length-take-le (c.args.i / g.row.N) c.args.rows.now (omega (arith, (row_within c.args.i g.row.N (length c.args.rows.now) (length c.countable.result.now) c.if-prove.false c.countable.ensures.len).1)))
-
-pub as_flattened-requires : goal.as_flattened-requires
-as_flattened-requires g c = grind (arith, common_steps)
-
-pub prove-unreachable-requires-2 : goal.prove-unreachable-requires-2
-prove-unreachable-requires-2 g c = grind (arith, common_steps)
