@@ -3,6 +3,7 @@
 #![tactic(auto)]
 
 pub mod joined;
+pub mod lemmas;
 pub mod linear_map;
 pub mod transform;
 pub mod uses;

@@ -1,6 +1,6 @@
 //! Short uses of the calls.
 
-ghost use Rattle.std.specs.Prelude.{◌≡◌, ◌≢◌, ◌+◌, ◌*◌, ◌%◌, ◌^◌, ◌<◌, ◌↔◌, IfOk, IsFalse, IsTrue, OnOk, length, unwrap_or, vec_len, zip};
+ghost use Rattle.std.specs.Prelude.{◌≡◌, ◌≢◌, ◌+◌, ◌*◌, ◌%◌, ◌^◌, ◌<◌, ◌≤◌, ◌↔◌, IfOk, IsFalse, IsTrue, OnOk, length, unwrap_or, vec_len, zip};
 ghost use Rattle.std.specs.Fn.{CalledAt};
 ghost use Rattle.std.specs.Int.{is_power_of_two};
 ghost use Rattle.std.specs.List.{FoldsTo};
@@ -60,8 +60,10 @@ pub fn transpose_part_where_it_fits<C: Cells>(
 }
 
 /// The number of levels that the split of a region with these sides needs.
+#[tactic(auto, using(p3_util::proofs::Callers::levels_most))]
 pub fn levels_of(rows: usize, cols: usize) -> u32
-    ensures { result ≡ lev rows cols }
+    ensures number { result ≡ lev rows cols }
+    ensures most { rows * cols < 2 ^ 64 → result ≤ 57 }
 {
     let tall = log2_ceil_usize(rows).saturating_sub(7);
     let wide = log2_ceil_usize(cols).saturating_sub(7);
