@@ -2,30 +2,53 @@
 
 use rayon::iter::{ParallelBridge, ParallelIterator};
 
-use super::parts::{self, ReversalPart, TransposePart, one_part_reversal};
+use super::parts::{self, ReversalPart, ReversalParts, TransposePart, TransposeParts, one_part_reversal};
 
-/// Reverses rows by eight parts for each thread, since some have half as many pairs as the others. Returns false if the call is
-/// short, or if there is one thread, and then does nothing.
+/// Reverses rows in parts. Returns false if the call is short, or if there is one thread, and then does nothing.
 #[inline]
 pub(super) fn reverse<F: Send>(vals: &mut [F], row_width: usize) -> bool {
-    vals.len() > one_part_reversal::<F>()
-        && run_all(ReversalPart::run, 8, |asked| parts::row_reversal(vals, row_width, asked))
+    vals.len() > one_part_reversal::<F>() && run_all(ReversalPart::run, |threads| reversal(vals, row_width, threads))
 }
 
-/// Does the same for a transpose, by four parts for each thread. With fewer than 2^18 items it takes less time on one thread.
+/// Does the same for a transpose. With fewer than 2^18 items it takes less time on one thread.
 #[inline]
 pub(super) fn transpose<T: Copy + Send + Sync>(input: &[T], output: &mut [T], width: usize, height: usize) -> bool {
-    input.len() >= 1 << 18
-        && run_all(TransposePart::run, 4, |asked| parts::transpose(input, output, width, height, asked))
+    let shape = (width, height);
+    input.len() >= 1 << 18 && run_all(TransposePart::run, |threads| transposes(input, output, shape, threads))
 }
 
-/// Asks `cut` for so many parts `of_each` thread and runs them, unless there is one thread. A thread takes the next part when it
-/// is done with the one before.
+/// Eight parts for each thread, since some have half as many pairs as the others.
+fn reversal<F: Send>(vals: &mut [F], row_width: usize, threads: usize) -> ReversalParts<'_, F> {
+    parts::row_reversal(vals, row_width, threads.saturating_mul(8))
+}
+
+/// Four parts for each thread.
+fn transposes<'a, T: Copy + Send + Sync>(
+    input: &'a [T],
+    output: &'a mut [T],
+    (width, height): (usize, usize),
+    threads: usize,
+) -> TransposeParts<'a, T> {
+    parts::transpose(input, output, width, height, threads.saturating_mul(4))
+}
+
+/// Cuts a call for so many threads and runs the parts, unless there is one thread. A thread takes the next part when it is done
+/// with the one before.
 #[inline(never)]
-fn run_all<P: Send, I: Iterator<Item = P> + Send>(run: fn(P), of_each: usize, cut: impl FnOnce(usize) -> I) -> bool {
+fn run_all<P: Send, I: Iterator<Item = P> + Send>(run: fn(P), cut: impl FnOnce(usize) -> I) -> bool {
     let threads = rayon::current_num_threads();
     if threads > 1 {
-        cut(threads.saturating_mul(of_each)).par_bridge().for_each(run);
+        cut(threads).par_bridge().for_each(run);
     }
     threads > 1
+}
+
+/// No result of a call depends on these numbers. The documentation of `parts` advises them.
+#[test]
+fn parts_of_each_thread() {
+    let mut list = std::vec![0u8; 1 << 20];
+    let wanted = parts::reversal(&mut list, 48).len();
+    assert_eq!(reversal(&mut list, 1, 6).len(), wanted);
+    let mut output = list.clone();
+    assert_eq!(transposes(&list, &mut output, (1 << 14, 64), 10).len(), 40);
 }

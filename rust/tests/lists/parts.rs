@@ -1,4 +1,4 @@
-//! Calls in parts, in various orders and on several threads, compared with the calls and with their definitions.
+//! Calls in parts, the last part first or on several threads, compared with the calls and with their definitions.
 
 use std::fmt::Debug;
 use std::iter::FusedIterator;
@@ -13,39 +13,28 @@ use crate::common::{Owner, reversed, transposed};
 use crate::refusal::{Refusal, refusal, text_of_transpose};
 
 /// Runs the parts on `threads` threads. Each thread takes the next part when it is done with the one before.
-fn run_on<P: Send>(threads: usize, parts: impl Iterator<Item = P> + Send, run: impl Fn(P) + Sync) {
+fn run_on<P: Send>(threads: usize, parts: impl Iterator<Item = P> + Send, run: fn(P)) {
     let parts = &Mutex::new(parts);
     let next = || parts.lock().unwrap().next();
     scope(|scope| {
         for _ in 0..threads {
-            scope.spawn(|| std::iter::from_fn(next).for_each(&run));
+            scope.spawn(|| std::iter::from_fn(next).for_each(run));
         }
     });
 }
 
-/// The numbers below `len` in one of several orders.
-fn order(len: usize, turn: usize) -> Vec<usize> {
-    let mut order: Vec<usize> = (0..len).collect();
-    match turn % 4 {
-        0 => {}
-        1 => order.reverse(),
-        2 => order.rotate_left(len / 2),
-        _ => order.sort_by_key(|i| (i % 3, *i)),
+/// Runs the parts on so many threads, or with 0 on this one, the last part first.
+fn run<P: Send>(threads: usize, parts: impl ExactSizeIterator<Item = P> + Send, run: fn(P)) {
+    if threads > 0 {
+        return run_on(threads, parts, run);
     }
-    order
-}
-
-/// Runs all parts of a list in one of several orders.
-fn run_in_order<P>(parts: impl ExactSizeIterator<Item = P>, turn: usize, run: impl Fn(P)) {
     let wanted = parts.len();
-    let mut parts: Vec<Option<P>> = parts.map(Some).collect();
+    let parts: Vec<P> = parts.collect();
     assert_eq!(parts.len(), wanted);
-    for i in order(parts.len(), turn) {
-        run(parts[i].take().unwrap());
-    }
+    parts.into_iter().rev().for_each(run);
 }
 
-/// Transposes the items that `item` makes in parts, in one of several orders or on threads.
+/// Transposes the items that `item` makes in parts.
 fn check_transpose<T: Copy + Debug + PartialEq + Send + Sync>(
     item: impl Fn(usize) -> T,
     (width, height): (usize, usize),
@@ -54,18 +43,15 @@ fn check_transpose<T: Copy + Debug + PartialEq + Send + Sync>(
 ) {
     let input: Vec<T> = (0..width * height).map(&item).collect();
     let mut output = vec![item(usize::MAX); input.len()];
-    let list = transpose(&input, &mut output, width, height, parts);
-    match threads {
-        0 => run_in_order(list, width + height + parts, TransposePart::run),
-        _ => run_on(threads, list, TransposePart::run),
-    }
+    let cut = transpose(&input, &mut output, width, height, parts);
+    run(threads, cut, TransposePart::run);
     for (place, got) in output.iter().enumerate() {
         let wanted = input[transposed(width, height, place)];
         assert_eq!(*got, wanted, "place {place} of {width} by {height} in {parts} parts");
     }
 }
 
-/// Reverses 2^`bits` rows of `width` items that `item` makes in parts, in one of several orders or on threads.
+/// Reverses 2^`bits` rows of `width` items that `item` makes in parts.
 fn check_reversal<F: Debug + PartialEq + Send + Sync>(
     item: impl Fn(usize) -> F,
     bits: u32,
@@ -78,10 +64,7 @@ fn check_reversal<F: Debug + PartialEq + Send + Sync>(
         1 => reversal(&mut list, parts),
         _ => row_reversal(&mut list, width, parts),
     };
-    match threads {
-        0 => run_in_order(cut, bits as usize + parts, ReversalPart::run),
-        _ => run_on(threads, cut, ReversalPart::run),
-    }
+    run(threads, cut, ReversalPart::run);
     for (i, got) in list.iter().enumerate() {
         let wanted = item(reversed(bits, i / width) * width + i % width);
         assert_eq!(*got, wanted, "place {i} of 2^{bits} rows of {width} in {parts} parts");
@@ -197,13 +180,6 @@ fn parts_that_are_not_run() {
     }
 }
 
-/// A part that is split into 13 levels.
-#[test]
-fn a_long_part() {
-    check_transpose(|i| i as u8, (3, 1 << 20), 1, 0);
-    check_transpose(|i| i as u8, (1 << 20, 3), 1, 0);
-}
-
 /// Items that own something are each in the list exactly once, whichever parts of a reversal are run.
 #[test]
 fn owners_are_neither_lost_nor_doubled() {
@@ -217,20 +193,6 @@ fn owners_are_neither_lost_nor_doubled() {
     assert!(numbers.into_iter().eq(0..1 << 19));
     drop(list);
     assert_eq!(drops.load(Relaxed), 1 << 19);
-}
-
-/// If a panic comes between two parts, the list goes back to its owner.
-#[test]
-fn a_panic_between_parts() {
-    let mut list: Vec<u32> = (0..1 << 19).collect();
-    let panic = refusal(|| {
-        let mut parts = reversal(&mut list, 4);
-        parts.next().unwrap().run();
-        panic!("between parts");
-    });
-    assert_eq!(panic.unwrap().text, "between parts");
-    list.sort_unstable();
-    assert!(list.into_iter().eq(0..1 << 19));
 }
 
 /// The number of parts that are left. After the last part the iterator ends for good, so it is `FusedIterator`.

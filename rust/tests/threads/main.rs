@@ -92,14 +92,10 @@ fn pool(threads: usize) -> ThreadPool {
     ThreadPoolBuilder::new().num_threads(threads).build().unwrap()
 }
 
-/// In the pool that every program has.
-#[test]
-fn calls_outside_a_pool() {
-    calls();
-}
-
 #[test]
 fn calls_in_a_pool() {
+    // In the pool that every program has.
+    calls();
     for threads in [1, 2, 3, 4, 7] {
         pool(threads).install(calls);
     }

@@ -25,9 +25,9 @@ pub(crate) const fn one_part_items(size: usize) -> usize
     }
 }
 
-/// Into how many ranges a side of a grid is cut at most if the caller asks for `parts` parts, 0 for 1. A grid that is cut into P
-/// ranges has P(P + 1) / 2 patches. These are about two for each part that is asked for, so that threads end at about the same
-/// time. More patches would be smaller, and make less use of the caches.
+/// Into how many ranges a side of a grid is cut at most for this number of `parts`, 0 for 1. A grid that is cut into P ranges has
+/// P(P + 1) / 2 patches, which are about two for each of `parts`. So the package passes half of the parts that a user asks for.
+/// More patches would be smaller, and make less use of the caches.
 #[tactic(auto, using(crate::proofs::Asked::root_fits, crate::proofs::Asked::root_most))]
 const fn ranges_of_side(parts: usize) -> usize
     ensures some { 0 < result }

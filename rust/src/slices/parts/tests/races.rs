@@ -34,60 +34,45 @@ fn run_on<P: Send>(threads: usize, parts: impl Iterator<Item = P>, run: fn(P)) {
     run_all(shares, run);
 }
 
-/// Numbers of 4 or 8 bytes, whose blocks are transposed in registers.
-trait Number: Copy + PartialEq + Send + Sync {
-    fn of(number: usize) -> Self;
-}
-
-impl Number for u32 {
-    fn of(number: usize) -> Self {
-        number as u32
-    }
-}
-
-impl Number for usize {
-    fn of(number: usize) -> Self {
-        number
-    }
-}
-
-/// These have padding and a pointer.
-impl Number for (u8, &'static str) {
-    fn of(number: usize) -> Self {
-        (number as u8, &"a text"[number % 6..])
-    }
-}
-
-/// Transposes a matrix of numbers in at most `parts` parts.
-fn transposes<T: Number>(width: usize, height: usize, parts: usize, threads: usize) {
-    let input: Vec<T> = (0..width * height).map(T::of).collect();
-    let mut output = std::vec![T::of(0); input.len()];
-    run_on(threads, transpose(&input, &mut output, width, height, parts), TransposePart::run);
-    let wanted = |place| T::of(transposed(width, height, place));
+/// Transposes a matrix of the items that `of` makes in at most `parts` parts.
+fn transposes<T: Copy + PartialEq + Send + Sync>(
+    of: fn(usize) -> T,
+    shape: (usize, usize),
+    parts: usize,
+    threads: usize,
+) {
+    let (width, height) = shape;
+    let input: Vec<T> = (0..width * height).map(of).collect();
+    let mut output = std::vec![of(0); input.len()];
+    let cut = transpose(&input, &mut output, width, height, parts);
+    run_on(threads, cut, TransposePart::run);
+    let wanted = |place| of(transposed(width, height, place));
     assert!(output.into_iter().eq((0..input.len()).map(wanted)));
 }
 
-/// Reverses 2^`digits` rows of numbers, in parts. The sides of the squares are cut into at most `parts` pieces.
-fn reverses<T: Number>(digits: usize, row_width: usize, parts: usize, threads: usize) {
-    let mut list: Vec<T> = (0..row_width << digits).map(T::of).collect();
-    let parts = cut(&mut list, row_width, Some(parts));
-    run_on(threads, parts, ReversalPart::run);
-    let item = |place| T::of(reversed(digits, place / row_width) * row_width + place % row_width);
-    assert!(list.into_iter().eq((0..row_width << digits).map(item)));
+/// Reverses 2^`digits` rows of these items, in parts. The sides of the squares are cut into at most `parts` pieces.
+fn reverses<F: PartialEq + Send>(of: fn(usize) -> F, (digits, width): (usize, usize), parts: usize, threads: usize) {
+    let mut list: Vec<F> = (0..width << digits).map(of).collect();
+    run_on(threads, cut(&mut list, width, Some(parts)), ReversalPart::run);
+    let wanted = |place| of(reversed(digits, place / width) * width + place % width);
+    assert!(list.into_iter().eq((0..width << digits).map(wanted)));
 }
 
 #[test]
 fn parts_on_threads() {
     for round in 0..if cfg!(miri) { 12 } else { 150 } {
         let (parts, threads) = (1 + round % 11, 2 + round % 7);
-        transposes::<u32>(1 + round * 7 % 97, 1 + round * 13 % 89, parts, threads);
-        transposes::<usize>(1 + round * 13 % 89, 1 + round * 7 % 97, parts, threads);
+        let (short, long) = (1 + round * 13 % 89, 1 + round * 7 % 97);
+        transposes(|i| i as u32, (long, short), parts, threads);
+        transposes(|i| i, (short, long), parts, threads);
         // These are put by cache lines.
-        transposes::<u32>(1 + round * 7 % 97, 16 + round % 5 * 16, parts, threads);
-        reverses::<u32>(round % 13, 1, parts, threads);
-        reverses::<usize>(round % 12, 1, parts, threads);
-        reverses::<(u8, &str)>(round % 9, 1 + round % 2, parts, threads);
-        reverses::<usize>(round % 8, 2 + round % 3, parts, threads);
+        transposes(|i| i as u32, (long, 16 + round % 5 * 16), parts, threads);
+        reverses(|i| i as u32, (round % 13, 1), parts, threads);
+        reverses(|i| i, (round % 12, 1), parts, threads);
+        // These have padding and a pointer.
+        let padded = |i| (i as u8, &"a text"[i % 6..]);
+        reverses(padded, (round % 9, 1 + round % 2), parts, threads);
+        reverses(|i| i, (round % 8, 2 + round % 3), parts, threads);
     }
 }
 
