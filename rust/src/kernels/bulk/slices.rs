@@ -26,12 +26,16 @@ fn exchange_runs_of_items<F>(items: &mut [F], i: usize, j: usize, len: usize) {
 impl<'a, T: Copy> Blocked for SliceCells<'a, T> {
     #[inline(always)]
     fn put_block<R: Ahead<Item = T>>(&mut self, source: &R, block: Block) {
-        match source.as_slice() {
-            Some(items) if block.rows == 16 && block.cols > 0 => put_rows_apart::<16, _>(self.values, items, block),
-            Some(items) if block.rows == 8 && block.cols > 0 => put_rows_apart::<8, _>(self.values, items, block),
-            Some(items) if block.rows == 4 && block.cols > 0 => put_rows::<4, _>(self.values, items, block),
-            Some(items) if block.rows == 2 && block.cols > 0 => put_rows::<2, _>(self.values, items, block),
-            Some(items) if block.rows == 1 && block.cols > 0 => put_rows::<1, _>(self.values, items, block),
+        let items = match source.as_slice() {
+            Some(items) if block.cols > 0 => items,
+            _ => return self.put_block_singly(source, block),
+        };
+        match block.rows {
+            16 => put_rows_apart::<16, _>(self.values, items, block),
+            8 => put_rows_apart::<8, _>(self.values, items, block),
+            4 => put_rows::<4, _>(self.values, items, block),
+            2 => put_rows::<2, _>(self.values, items, block),
+            1 => put_rows::<1, _>(self.values, items, block),
             _ => self.put_block_singly(source, block),
         }
     }
