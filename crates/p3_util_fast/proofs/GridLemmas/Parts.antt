@@ -81,8 +81,8 @@ module _ {A : Type 0} (grid : Grid) (items : List A) (holds : HoldsGrid grid ite
       crossed = λ t c d h. grind (arith, h, pair.first t h.0.0, pair.second t h.0.0);
       others = λ k out.
           pair.others k
-          (outside k _ grid.width (λ t ht. out t a b ((ht, omega arith, below), record { row_from = omega arith; row_to = omega arith; col_from = omega arith; col_to = omega arith })))
-          (outside k _ grid.width (λ t ht. out t b a ((ht, below, omega arith), record { row_from = omega arith; row_to = omega arith; col_from = omega arith; col_to = omega arith })));
+          (outside k _ grid.width (λ t ht. out t a b ((ht, omega arith, below), grind arith)))
+          (outside k _ grid.width (λ t ht. out t b a ((ht, below, omega arith), grind arith)));
     }
 
     -- the first column of the region is exchanged, and then the others
@@ -150,9 +150,9 @@ module _ {A : Type 0} (grid : Grid) (items : List A) (holds : HoldsGrid grid ite
               ];
           others = λ k out.
               s.others k (λ r c hc h. (
-                λ e. out 0 (row + r) (col + c) ((omega (arith, one), omega arith, omega arith), record { row_from = omega arith; row_to = omega arith; col_from = omega arith; col_to = omega arith })
+                λ e. out 0 (row + r) (col + c) ((omega (arith, one), omega arith, omega arith), grind arith)
                     (omega (arith, e, single (row_place grid (row + r) + (col + c)), upper r (omega arith))),
-                λ e. out 0 (col + c) (row + r) ((omega (arith, one), omega arith, omega arith), record { row_from = omega arith; row_to = omega arith; col_from = omega arith; col_to = omega arith })
+                λ e. out 0 (col + c) (row + r) ((omega (arith, one), omega arith, omega arith), grind arith)
                     (omega (arith, e, single (row_place grid (col + c) + (row + r)), lower c hc)),
               ));
         }
@@ -175,7 +175,7 @@ module _ {A : Type 0} (grid : Grid) (items : List A) (holds : HoldsGrid grid ite
               s.others k (λ r c hr hc h e.
               let row : start + r - start ≡ r = omega arith in
               let col : start + c - start ≡ c = omega arith in
-              out 0 (start + r) (start + c) ((omega (arith, one), omega arith, omega arith), record { row_from = omega arith; row_to = omega arith; col_from = omega arith; col_to = omega arith })
+              out 0 (start + r) (start + c) ((omega (arith, one), omega arith, omega arith), grind arith)
               (omega (arith, e, rw (row, col) at (place (start + r) (start + c) (omega arith) (omega arith) (omega arith)))));
         }
 

@@ -38,18 +38,7 @@ module _ (half c row_width middle : ℕ) (within : half ≤ c) (below : middle <
         let all : 2 ^ digits ≡ 2 ^ half * 2 ^ c = ap (λ n. 2 ^ n) is ∙ pow-add 2 half c in
         let places : row_place grid a + 2 ^ half ≤ 2 ^ digits = omega (arith, row, all, columns, turned grid a) in
         omega (arith, mul-le-mul_right {m = row_place grid a + 2 ^ half} {n = 2 ^ digits} row_width places, rows.rows);
-    apart = λ a b less h.
-        elim (cases_lt (rev half a) (rev half b)) [
-          | inl up ↦ inl (later a b up)
-          | inr down ↦
-              elim (cases_lt (rev half b) (rev half a)) [
-                | inl more ↦ inr (later b a more)
-                | inr same ↦
-                    let equal : rev half a ≡ rev half b = omega arith in
-                    let one : a ≡ b = sym (rev-rev-below half a (omega arith)) ∙ ap (rev half) equal ∙ rev-rev-below half b h in
-                    absurd (omega arith)
-              ]
-        ];
+    apart = λ a b less h. grind (arith, later a b, later b a, rev-rev-below half a (omega arith), rev-rev-below half b h);
     len_fits = rows.len_fits;
   }
 
@@ -72,7 +61,7 @@ module _ (half c row_width middle : ℕ) (within : half ≤ c) (below : middle <
               | inr last ↦
                   let is : m.0 ≡ middle = omega arith in
                   rw (is, ← place-row x y, ← place-row y x)
-                  (t.crossed m.1 x y ((item.item, item.high, item.low), record { row_from = omega arith; row_to = omega (arith, item.high, item.low); col_from = omega arith; col_to = omega (arith, item.high, item.low) })
+                  (t.crossed m.1 x y ((item.item, item.high, item.low), grind (arith, item))
                   ∙ rw (place-row, ← is)
                   (s.others (row_of half c m.0 y x * row_width + m.1)
                   (λ n v w k e. omega (arith, is, k.1, (same_item half c within row_width m n y x v w (turned_item half c within row_width m x y item) k.0 e).0.0))))
