@@ -1,27 +1,8 @@
--- A region put in two parts, and a region put column by column.
+-- A region put column by column, and its numbers of items.
 use Rattle.std.proofs.Common.{◌≡◌, ℕ, ◌+◌, ◌-◌, ◌*◌, ◌<◌, ◌≤◌, ◌⊎◌, List, length, slice_get, mul_comm, mul-le-mul_right, arith}
 use Rattle.p3_util_kernels.specs.declared.transpose.region.Region.{Region}
 use Rattle.p3_util_kernels.specs.Region.{IsRegionTransposed}
 use Rattle.p3_util_kernels.proofs.BitsLemmas.Pairs.{mul-parts_left, mul-parts_right}
-use Rattle.p3_util_kernels.proofs.TransposeLemmas.Region.{IsCut-cols, IsCut-rows, IsRegionTransposed-cut}
-
-module _ {A : Type 0} where
-  -- A region is put in two parts: the rows before `middle` and then the rows from `middle` on. The same for columns.
-  pub region_of_rows : (region : Region) (middle width height : ℕ) (input old mid new : List A)
-      → region.row_start ≤ middle → middle ≤ region.row_end → region.row_end ≤ height
-      → IsRegionTransposed (record region { row_end = middle }) width height input old mid
-      → IsRegionTransposed (record region { row_start = middle }) width height input mid new
-      → IsRegionTransposed region width height input old new
-  region_of_rows region middle width height input old mid new from to inside =
-      IsRegionTransposed-cut width height input region _ _ old mid new inside (IsCut-rows region middle from to)
-
-  pub region_of_cols : (region : Region) (middle width height : ℕ) (input old mid new : List A)
-      → region.col_start ≤ middle → middle ≤ region.col_end → region.row_end ≤ height
-      → IsRegionTransposed (record region { col_end = middle }) width height input old mid
-      → IsRegionTransposed (record region { col_start = middle }) width height input mid new
-      → IsRegionTransposed region width height input old new
-  region_of_cols region middle width height input old mid new from to inside =
-      IsRegionTransposed-cut width height input region _ _ old mid new inside (IsCut-cols region middle from to)
 
 -- the numbers of items of a region's two parts add up to that of the region
 pub rows_in_two : (start middle end cols : ℕ) → start ≤ middle → middle ≤ end → (middle - start) * cols + (end - middle) * cols ≡ (end - start) * cols

@@ -1,14 +1,13 @@
 -- Each turn of the loop adds one more row to the column.
 use Rattle.std.proofs.Common.{◌≡◌, ◌+◌, arith}
-use Rattle.p3_util_kernels.proofs.TransposeLemmas.Tiles.{region_of_rows}
+use Rattle.p3_util_kernels.proofs.TransposeLemmas.Region.{IsRegionTransposed-rows}
 use Rattle.p3_util_kernels.proofs.transpose.region.put_column.Goals as goal
 
 pub loop-y-preserved : goal.loop-y-preserved
 loop-y-preserved g c =
     let y = c.loop-y.y in
-    let done = record c.args.column { row_end = y + 1 } in
     record {
-      transposed = region_of_rows done y _ _ _ _ _ _ (omega arith) (omega arith) (omega (arith, c.requires.inside.rows_inside)) c.loop-y.invariant.transposed (rw c.requires.single c.put_item.ensures.transposed);
+      transposed = IsRegionTransposed-rows c.args.column _ _ _ _ _ _ y (y + 1) (omega arith) (omega arith) (omega (arith, c.requires.inside.rows_inside)) c.loop-y.invariant.transposed (rw c.requires.single c.put_item.ensures.transposed);
       count = omega (arith, c.loop-y.invariant.count, c.put_item.ensures.count);
       holder = g.met.C.Cells.same_holder_trans _ _ _ _ _ _ c.loop-y.invariant.holder c.put_item.ensures.holder (omega arith);
     }

@@ -1,19 +1,19 @@
 -- Each turn of the loop adds one more column to the region.
 use Rattle.std.proofs.Common.{◌≡◌, ◌+◌, ◌-◌, ◌*◌, arith}
-use Rattle.p3_util_kernels.proofs.TransposeLemmas.Tiles.{cols_in_two, region_of_cols}
+use Rattle.p3_util_kernels.proofs.TransposeLemmas.Region.{IsRegionTransposed-cols}
+use Rattle.p3_util_kernels.proofs.TransposeLemmas.Tiles.{cols_in_two}
 use Rattle.p3_util_kernels.proofs.transpose.region.put_columns.Goals as goal
 
 pub loop-x-preserved : goal.loop-x-preserved
 loop-x-preserved g c =
     let x = c.loop-x.x in
-    let done = record c.args.region { col_end = x + 1 } in
     let one : x + 1 - x ≡ 1 = omega arith in
     let rows = c.args.region.row_end - c.args.region.row_start in
     let two = cols_in_two c.args.region.col_start x (x + 1) (c.args.region.row_end - c.args.region.row_start) (omega arith) (omega arith) in
     let more : rows * (x - c.args.region.col_start) + rows ≡ rows * (x + 1 - c.args.region.col_start) = omega (arith, rw one at two) in
     let put = rw c.with_cols.ensures at c.put_column.ensures in
     record {
-      transposed = region_of_cols done x _ _ _ _ _ _ (omega arith) (omega arith) c.requires.inside.rows_inside c.loop-x.invariant.transposed put.transposed;
+      transposed = IsRegionTransposed-cols c.args.region _ _ _ _ _ _ x (x + 1) (omega arith) (omega arith) c.requires.inside.rows_inside c.loop-x.invariant.transposed put.transposed;
       count = omega (arith, more, c.loop-x.invariant.count, put.count);
       holder = g.met.C.Cells.same_holder_trans _ _ _ _ _ _ c.loop-x.invariant.holder put.holder more;
     }

@@ -1,6 +1,7 @@
 -- Each turn of the loop adds one more column to the region.
 use Rattle.std.proofs.Common.{◌≡◌, ℕ, ◌+◌, ◌*◌, ◌<◌, slice_get, ◌∙◌, arith}
-use Rattle.p3_util_kernels.proofs.TransposeLemmas.Tiles.{region_of_cols, region_of_column}
+use Rattle.p3_util_kernels.proofs.TransposeLemmas.Region.{IsRegionTransposed-cols}
+use Rattle.p3_util_kernels.proofs.TransposeLemmas.Tiles.{region_of_column}
 use Rattle.p3_util_kernels.proofs.transpose.tile.put_block.Goals as goal
 
 pub place_in-to-requires : goal.place_in-to-requires
@@ -25,7 +26,7 @@ loop-k-preserved g c =
     let read : (t : ℕ) → t < 4 → slice_get c.row_of-column.result t ≡ slice_get (g.R.Source.items c.args.matrix.source) ((block.row_start + t) * c.args.matrix.width + col) =
     λ t ht. rw (c.row_of-column.ensures t, c.butterfly_4x4-turned.ensures c.loop-k.k t here ht) (c.read_block.ensures t c.loop-k.k ht here) in
     record {
-      transposed = rw next (region_of_cols (record block { col_end = col + 1 }) col c.args.matrix.width c.args.matrix.height _ _ _ _ (omega arith) (omega arith)
+      transposed = rw next (IsRegionTransposed-cols block c.args.matrix.width c.args.matrix.height _ _ _ _ col (col + 1) (omega arith) (omega arith)
           c.requires.tall c.loop-k.invariant.transposed
           (region_of_column block c.args.matrix.width c.args.matrix.height col 4 (g.R.Source.items c.args.matrix.source) _ _ c.requires.rows c.put_run.ensures.same_length
           (λ t ht. let zero : 0 + t ≡ t = omega arith in rw zero at (rw to at c.put_run.ensures.places t ht) ∙ read t ht) (rw to at c.put_run.ensures.others)));

@@ -1,6 +1,6 @@
 -- Each turn of the loop adds the columns of one more block to the region.
 use Rattle.std.proofs.Common.{◌≡◌, ◌+◌, ◌*◌, arith}
-use Rattle.p3_util_kernels.proofs.TransposeLemmas.Tiles.{region_of_cols}
+use Rattle.p3_util_kernels.proofs.TransposeLemmas.Region.{IsRegionTransposed-cols}
 use Rattle.p3_util_kernels.proofs.transpose.tile.put_row_of_blocks.Goals as goal
 
 -- a block lies in its row of blocks
@@ -16,7 +16,7 @@ loop-k-preserved g c =
     let col = blocks.col_start + 4 * c.loop-k.k in
     let next : blocks.col_start + 4 * (c.loop-k.k + 1) ≡ col + 4 = omega arith in
     record {
-      transposed = rw next (region_of_cols (record blocks { col_end = col + 4 }) col _ _ _ _ _ _ (omega arith) (omega arith)
+      transposed = rw next (IsRegionTransposed-cols blocks _ _ _ _ _ _ col (col + 4) (omega arith) (omega arith)
           c.requires.tall c.loop-k.invariant.transposed (rw c.with_cols-block.ensures at c.put_block.ensures.transposed));
       holder = g.met.C.Cells.same_holder_trans _ _ _ _ _ _ c.loop-k.invariant.holder c.put_block.ensures.holder (omega arith);
     }

@@ -1,6 +1,6 @@
 -- Each turn of the loop adds the rows of one more row of blocks to the region.
 use Rattle.std.proofs.Common.{◌≡◌, ◌+◌, ◌*◌, arith}
-use Rattle.p3_util_kernels.proofs.TransposeLemmas.Tiles.{region_of_rows}
+use Rattle.p3_util_kernels.proofs.TransposeLemmas.Region.{IsRegionTransposed-rows}
 use Rattle.p3_util_kernels.proofs.transpose.tile.put_rows_of_blocks.Goals as goal
 
 -- a row of blocks lies in the tile
@@ -16,7 +16,7 @@ loop-k-preserved g c =
     let row = tile.row_start + 4 * c.loop-k.k in
     let next : tile.row_start + 4 * (c.loop-k.k + 1) ≡ row + 4 = omega arith in
     record {
-      transposed = rw next (region_of_rows (record tile { row_end = row + 4 }) row _ _ _ _ _ _ (omega arith) (omega arith) (omega arith)
+      transposed = rw next (IsRegionTransposed-rows tile _ _ _ _ _ _ row (row + 4) (omega arith) (omega arith) (omega arith)
           c.loop-k.invariant.transposed (rw c.with_rows-blocks.ensures at c.put_row_of_blocks.ensures.transposed));
       holder = g.met.C.Cells.same_holder_trans _ _ _ _ _ _ c.loop-k.invariant.holder c.put_row_of_blocks.ensures.holder (omega arith);
     }

@@ -1,6 +1,7 @@
 -- Each turn of the loop adds one more column to the region.
 use Rattle.std.proofs.Common.{◌≡◌, ◌+◌, ◌∙◌, arith}
-use Rattle.p3_util_kernels.proofs.TransposeLemmas.Tiles.{cell_inside, region_of_cols, region_of_column}
+use Rattle.p3_util_kernels.proofs.TransposeLemmas.Region.{IsRegionTransposed-cols}
+use Rattle.p3_util_kernels.proofs.TransposeLemmas.Tiles.{cell_inside, region_of_column}
 use Rattle.p3_util_kernels.proofs.transpose.tile.put_runs.Goals as goal
 
 pub place_in-to-requires : goal.place_in-to-requires
@@ -23,7 +24,7 @@ loop-k-preserved g c =
     let here = c.loop-k-test.true in
     let to = c.place_in-to.ensures in
     record {
-      transposed = rw next (region_of_cols (record tile { col_end = col + 1 }) col c.args.matrix.width c.args.matrix.height _ _ _ _ (omega arith) (omega arith)
+      transposed = rw next (IsRegionTransposed-cols tile c.args.matrix.width c.args.matrix.height _ _ _ _ col (col + 1) (omega arith) (omega arith)
           c.requires.inside.rows_inside c.loop-k.invariant.transposed
           (region_of_column tile c.args.matrix.width c.args.matrix.height col 16 (g.R.Source.items c.args.matrix.source) _ _ c.requires.rows c.put_run.ensures.same_length
           (λ t ht. rw to at c.put_run.ensures.places t ht ∙ c.requires.collected c.loop-k.k t here ht) (rw to at c.put_run.ensures.others)));
