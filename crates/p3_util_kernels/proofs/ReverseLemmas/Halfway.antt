@@ -1,6 +1,5 @@
 -- Rows of a list on their way to bit-reversed order: the rows that belong to a row below i have changed places.
 use Rattle.std.proofs.Common.{◌≡◌, ◌≢◌, ℕ, ◌+◌, ◌*◌, ◌^◌, ◌<◌, ◌≤◌, ◌⊎◌, List, length, slice_get, inl, inr, refl, sym, ap, ◌∙◌, mul-le-mul_right, arith}
-use Rattle.std.proofs.lemmas.Bool.{cases_eq, cases_lt}
 use Rattle.p3_util_kernels.specs.Digits.{rev}
 use Rattle.p3_util_kernels.specs.Exchanged.{RunsExchanged}
 use Rattle.p3_util_kernels.specs.Reversal.{IsRowReversal}
