@@ -1,5 +1,5 @@
 -- Rows of a list as grids: those whose indices have the same middle bit form one grid.
-use Rattle.std.proofs.Common.{◌≡◌, ℕ, ◌+◌, ◌-◌, ◌*◌, ◌^◌, ◌<◌, ◌≤◌, List, inl, inr, sym, ap, ◌∙◌, refl, mul-le-mul_right, pow-add, arith}
+use Rattle.std.proofs.Common.{◌≡◌, ℕ, ◌+◌, ◌-◌, ◌*◌, ◌^◌, ◌<◌, ◌≤◌, List, inl, inr, ap, ◌∙◌, mul-le-mul_right, pow-add, arith}
 use Rattle.std.proofs.lemmas.Bool.{cases_lt}
 use Rattle.p3_util_fast.specs.declared.grid.Grid.{Grid}
 use Rattle.p3_util_fast.specs.Crossing.{HoldsRows, IsRowItem, row_of}

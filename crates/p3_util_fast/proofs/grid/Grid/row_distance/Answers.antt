@@ -1,4 +1,4 @@
-use Rattle.std.proofs.Common.{◌≡◌, ℕ, ◌*◌, ap, arith}
+use Rattle.std.proofs.Common.{ℕ, ◌*◌, ap, arith}
 use Rattle.p3_util_fast.proofs.GridLemmas.Distances.{IsRowDistance-reversed, last_fits, three}
 use Rattle.p3_util_fast.proofs.grid.Grid.row_distance.Goals as goal
 
