@@ -33,7 +33,17 @@ pub(crate) fn exchange_both<T, D: Register<T>, M: RunsOfPlaces<T, D>>(
     ensures holder { M.Places.same_holder 64 list.old list.new }
 {
     match D::SIDE {
-        2 | 4 | 8 => exchange_tiles(list, x, y),
+        2 => {
+            exchange_band(list, x, y, 0);
+            exchange_band(list, x, y, 2);
+            exchange_band(list, x, y, 4);
+            exchange_band(list, x, y, 6);
+        }
+        4 => {
+            exchange_band(list, x, y, 0);
+            exchange_band(list, x, y, 4);
+        }
+        8 => exchange_band(list, x, y, 0),
         _ => exchange_singly(list, x, y),
     }
 }
@@ -47,7 +57,17 @@ pub(crate) fn turn<T, D: Register<T>, M: RunsOfPlaces<T, D> + Tiled>(list: &mut 
     ensures holder { M.Places.same_holder 28 list.old list.new }
 {
     match D::SIDE {
-        2 | 4 | 8 => turn_tile(list, x),
+        2 => {
+            turn_squares(list, x, 0);
+            turn_squares(list, x, 2);
+            turn_squares(list, x, 4);
+            turn_squares(list, x, 6);
+        }
+        4 => {
+            turn_squares(list, x, 0);
+            turn_squares(list, x, 4);
+        }
+        8 => turn_squares(list, x, 0),
         _ => list.turn_tile_singly(x),
     }
 }
@@ -76,32 +96,6 @@ fn exchange_band<T, D: Register<T>, M: Runs<T, D>>(
     let to_x = load_columns(list, in_y);
     store(list, 8, in_y, to_y);
     store(list, 8, in_x, to_x);
-}
-
-/// Does what `Tiled::exchange_tiles` does, by squares of `D::SIDE` rows.
-#[inline(always)]
-fn exchange_tiles<T, D: Register<T>, M: Runs<T, D>>(list: &mut M, x: [usize; 8], y: [usize; 8])
-    requires some_side { IsSide D.SIDE }
-    requires tiles { AreTiles x y (length (M.items list.old)) }
-    requires reached_x { RowsReached 8 D.SIDE (slice_index x) (M.may (M.reach list.old)) }
-    requires reached_y { RowsReached 8 D.SIDE (slice_index y) (M.may (M.reach list.old)) }
-    ensures exchanged { TilesExchanged 64 x y (M.items list.old) (M.items list.new) }
-    ensures reach { M.reach list.new ≡ M.reach list.old }
-    ensures holder { M.same_holder 128 list.old list.new }
-{
-    match D::SIDE {
-        2 => {
-            exchange_band(list, x, y, 0);
-            exchange_band(list, x, y, 2);
-            exchange_band(list, x, y, 4);
-            exchange_band(list, x, y, 6);
-        }
-        4 => {
-            exchange_band(list, x, y, 0);
-            exchange_band(list, x, y, 4);
-        }
-        _ => exchange_band(list, x, y, 0),
-    }
 }
 
 /// The first column of the square whose mirror image is in row `c` of all squares.
@@ -142,31 +136,6 @@ fn turn_squares<T, D: Register<T>, M: Runs<T, D>>(list: &mut M, x: [usize; 8], s
     let tops = opposites(side, sum);
     let columns = load_columns(list, in_columns(x, tops));
     store(list, 8, in_rows(x, side, tops), columns);
-}
-
-/// Does what `Tiled::turn_tile` does, by squares of `D::SIDE` rows.
-#[inline(always)]
-fn turn_tile<T, D: Register<T>, M: Runs<T, D>>(list: &mut M, x: [usize; 8])
-    requires some_side { IsSide D.SIDE }
-    requires tile { IsTile x (length (M.items list.old)) }
-    requires reached { RowsReached 8 D.SIDE (slice_index x) (M.may (M.reach list.old)) }
-    ensures turned { TileTurned 64 x (M.items list.old) (M.items list.new) }
-    ensures reach { M.reach list.new ≡ M.reach list.old }
-    ensures holder { M.same_holder 64 list.old list.new }
-{
-    match D::SIDE {
-        2 => {
-            turn_squares(list, x, 0);
-            turn_squares(list, x, 2);
-            turn_squares(list, x, 4);
-            turn_squares(list, x, 6);
-        }
-        4 => {
-            turn_squares(list, x, 0);
-            turn_squares(list, x, 4);
-        }
-        _ => turn_squares(list, x, 0),
-    }
 }
 
 /// Exchanges two tiles item by item, in squares of 4 by 4.

@@ -12,7 +12,17 @@ pub(crate) trait RunsOfPlaces<T, D: Register<T>>: Runs<T, D> + Places<Item = T> 
 #[inline(always)]
 pub(crate) fn exchange_both<T, D: Register<T>, M: RunsOfPlaces<T, D>>(list: &mut M, x: [usize; 8], y: [usize; 8]) {
     match D::SIDE {
-        2 | 4 | 8 => exchange_tiles(list, x, y),
+        2 => {
+            exchange_band(list, x, y, 0);
+            exchange_band(list, x, y, 2);
+            exchange_band(list, x, y, 4);
+            exchange_band(list, x, y, 6);
+        }
+        4 => {
+            exchange_band(list, x, y, 0);
+            exchange_band(list, x, y, 4);
+        }
+        8 => exchange_band(list, x, y, 0),
         _ => exchange_singly(list, x, y),
     }
 }
@@ -21,7 +31,17 @@ pub(crate) fn exchange_both<T, D: Register<T>, M: RunsOfPlaces<T, D>>(list: &mut
 #[inline(always)]
 pub(crate) fn turn<T, D: Register<T>, M: RunsOfPlaces<T, D> + Tiled>(list: &mut M, x: [usize; 8]) {
     match D::SIDE {
-        2 | 4 | 8 => turn_tile(list, x),
+        2 => {
+            turn_squares(list, x, 0);
+            turn_squares(list, x, 2);
+            turn_squares(list, x, 4);
+            turn_squares(list, x, 6);
+        }
+        4 => {
+            turn_squares(list, x, 0);
+            turn_squares(list, x, 4);
+        }
+        8 => turn_squares(list, x, 0),
         _ => list.turn_tile_singly(x),
     }
 }
@@ -35,24 +55,6 @@ fn exchange_band<T, D: Register<T>, M: Runs<T, D>>(list: &mut M, x: [usize; 8], 
     let to_x = load_columns(list, in_y);
     store(list, 8, in_y, to_y);
     store(list, 8, in_x, to_x);
-}
-
-/// Does what `Tiled::exchange_tiles` does, by squares of `D::SIDE` rows.
-#[inline(always)]
-fn exchange_tiles<T, D: Register<T>, M: Runs<T, D>>(list: &mut M, x: [usize; 8], y: [usize; 8]) {
-    match D::SIDE {
-        2 => {
-            exchange_band(list, x, y, 0);
-            exchange_band(list, x, y, 2);
-            exchange_band(list, x, y, 4);
-            exchange_band(list, x, y, 6);
-        }
-        4 => {
-            exchange_band(list, x, y, 0);
-            exchange_band(list, x, y, 4);
-        }
-        _ => exchange_band(list, x, y, 0),
-    }
 }
 
 /// The first column of the square whose mirror image is in row `c` of all squares.
@@ -74,24 +76,6 @@ fn turn_squares<T, D: Register<T>, M: Runs<T, D>>(list: &mut M, x: [usize; 8], s
     let tops = opposites(side, sum);
     let columns = load_columns(list, in_columns(x, tops));
     store(list, 8, in_rows(x, side, tops), columns);
-}
-
-/// Does what `Tiled::turn_tile` does, by squares of `D::SIDE` rows.
-#[inline(always)]
-fn turn_tile<T, D: Register<T>, M: Runs<T, D>>(list: &mut M, x: [usize; 8]) {
-    match D::SIDE {
-        2 => {
-            turn_squares(list, x, 0);
-            turn_squares(list, x, 2);
-            turn_squares(list, x, 4);
-            turn_squares(list, x, 6);
-        }
-        4 => {
-            turn_squares(list, x, 0);
-            turn_squares(list, x, 4);
-        }
-        _ => turn_squares(list, x, 0),
-    }
 }
 
 /// Exchanges two tiles item by item, in squares of 4 by 4.
