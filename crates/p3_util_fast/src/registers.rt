@@ -24,9 +24,7 @@
 
 ghost use Rattle.std.specs.Prelude.{◌≡◌, ℕ, ◌+◌, ◌-◌, ◌*◌, ◌/◌, ◌%◌, ◌^◌, ◌<◌, ◌≤◌, ◌⊎◌, List, [], ◌∷◌, ◌++◌, length, refl, slice_get, slice_index};
 ghost use Rattle.std.proofs.Common.{arith, length-append};
-ghost use Rattle.p3_util_fast.specs.BlockPut.{BlockFits, IsBlockPut, block_items};
-ghost use Rattle.p3_util_fast.specs.Registers.{AreDisjoint, AreColumns, AreInterleaved, AreLoaded, AreReached, AreStored, ColumnsPut, IsNextStage, IsSide, IsRunStored, IsStored, RowsExchanged, RowsReached, SquaresTurned, items_of_four};
-ghost use Rattle.p3_util_fast.specs.Tiles.{AreTiles, IsTile, TileTurned, TilesExchanged};
+ghost use Rattle.p3_util_fast.specs.Registers.{AreDisjoint, AreColumns, AreInterleaved, AreLoaded, AreReached, AreStored, IsNextStage, IsSide, IsRunStored, IsStored, items_of_four};
 
 /// What a function returns for 0 to 7 as its last argument. With a loop, the compiler would move registers back and forth in the
 /// loop over the blocks.
