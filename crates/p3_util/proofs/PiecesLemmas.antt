@@ -16,48 +16,40 @@ use Rattle.p3_util.specs.Pieces.{piece_count, piece, pieces}
 pub eq_zero-false : (n : ℕ) → 0 < n → (n == 0) ≡ false
 eq_zero-false n some = search (rules, tests)
 
--- only one number of pieces has room for all items and has all pieces full except the last one
-one_number : (a k n q : ℕ) → q * n < a + n → a ≤ q * n → k * n < a + n → a ≤ k * n → q ≡ k
-one_number a k n q over room over' room' =
-    let below : q < k + 1 = lt_of_mul-lt-mul_left n (let m : n * q < n * (k + 1) = omega arith in m) in
-    let above : k < q + 1 = lt_of_mul-lt-mul_left n (let m : n * k < n * (q + 1) = omega arith in m) in
+less : (n p q : ℕ) → p * n < q * n → p < q
+less n p q h = lt_of_mul-lt-mul_left n (let m : n * p < n * q = omega arith in m)
+
+-- the pieces have room for all items, and one piece fewer has not
+room : (n a : ℕ) → 0 < n → (a ≤ piece_count n a * n) × (piece_count n a * n < a + n)
+room zero a some = absurd (omega arith)
+room (suc k) a some = div_ceil_times a (suc k) some
+
+-- only one number of pieces is so
+only : (n a k q : ℕ) → (a ≤ q * n) × (q * n < a + n) → a ≤ k * n → k * n < a + n → q ≡ k
+only n a k q h enough most =
+    let below : q < k + 1 = less n q (k + 1) (omega (arith, h.1)) in
+    let above : k < q + 1 = less n k (q + 1) (omega (arith, h.0)) in
     omega arith
 
-div_ceil-is : (a k n : ℕ) → 0 < n → k * n < a + n → a ≤ k * n → div_ceil a n ≡ k
-div_ceil-is a k n some over room = let q = div_ceil_times a n some in one_number a k n (div_ceil a n) q.1 q.0 over room
-
 pub piece_count-more : (k n m : ℕ) → 0 < m → m ≤ n → piece_count n (k * n + m) ≡ k + 1
-piece_count-more k zero m some fits = absurd (omega arith)
-piece_count-more k (suc n) m some fits = div_ceil-is (k * suc n + m) (k + 1) (suc n) (omega arith) (omega arith) (omega arith)
+piece_count-more k n m some fits = only n (k * n + m) (k + 1) (piece_count n (k * n + m)) (room n (k * n + m) (omega arith)) (omega arith) (omega arith)
 
 pub piece_count-whole : (k n : ℕ) → 0 < n → piece_count n (k * n) ≡ k
-piece_count-whole k zero some = absurd (omega arith)
-piece_count-whole k (suc n) some = div_ceil-is (k * suc n) k (suc n) some (omega arith) (omega arith)
+piece_count-whole k n some = only n (k * n) k (piece_count n (k * n)) (room n (k * n) some) (omega arith) (omega arith)
 
-pub div_ceil-upper : (a n : ℕ) → 0 < n → a ≤ div_ceil a n * n
-div_ceil-upper a n some = (div_ceil_times a n some).0
+fewer : (n a b p q : ℕ) → p * n < a + n → a + n ≤ b → b ≤ q * n → p < q
+fewer n a b p q h fall k = less n p q (omega arith)
 
 -- at least n items fewer make at least one piece fewer
-falls_by : (n q a b c : ℕ) → q * n < a + n → a + n ≤ b → b ≤ c * n → q < c
-falls_by n q a b c over fall upper = lt_of_mul-lt-mul_left n (let m : n * q < n * c = omega arith in m)
-
 pub piece_count-falls : (n a b : ℕ) → 0 < n → a + n ≤ b → piece_count n a < piece_count n b
-piece_count-falls zero a b some fall = absurd (omega arith)
-piece_count-falls (suc k) a b some fall = falls_by (suc k) (div_ceil a (suc k)) a b (div_ceil b (suc k)) (div_ceil_times a (suc k) some).1 fall (div_ceil-upper b (suc k) some)
+piece_count-falls n a b some fall = fewer n a b (piece_count n a) (piece_count n b) (room n a some).1 fall (room n b some).0
 
 pub piece_count-none : (n : ℕ) → piece_count n 0 ≡ 0
 piece_count-none zero = refl
-piece_count-none (suc n) =
-    let e : 0 * suc n ≡ 0 = omega arith in
-    subst (λ k. piece_count (suc n) k ≡ 0) e (piece_count-whole 0 (suc n) (omega arith))
-
-some_room : (a c n : ℕ) → 0 < a → a ≤ c * n → 0 < c
-some_room a zero n some room = absurd (omega arith)
-some_room a (suc c) n some room = omega arith
+piece_count-none (suc n) = only (suc n) 0 0 (piece_count (suc n) 0) (room (suc n) 0 (omega arith)) (omega arith) (omega arith)
 
 pub piece_count-some : (n a : ℕ) → 0 < n → 0 < a → 0 < piece_count n a
-piece_count-some zero a some items = absurd (omega arith)
-piece_count-some (suc k) a some items = some_room a (div_ceil a (suc k)) (suc k) items (div_ceil-upper a (suc k) some)
+piece_count-some n a some items = less n 0 (piece_count n a) (let h = (room n a some).0 in omega (arith, items, h))
 
 same_map : {X : Type 0} (f g : ℕ → X) (a n : ℕ) → ((p : ℕ) → p < a + n → f p ≡ g p) → map f (range_with_len a n) ≡ map g (range_with_len a n)
 same_map f g a zero same = refl
