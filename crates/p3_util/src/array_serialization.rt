@@ -28,8 +28,7 @@ pub enum ElementError {
 pub enum ArrayError {
     /// The value is not a list.
     NotArray,
-    /// The item at `index`, counted from 0, is refused, for the reason `cause`. No item before it
-    /// is refused.
+    /// The item at `index`, counted from 0, is refused, for the reason `cause`. No item before it is refused.
     Element { index: usize, cause: ElementError },
     /// The list has `got` items, which is not the length of the array.
     Length { got: usize },
@@ -62,8 +61,8 @@ pub trait ArrayElement: Default {
     ///
     /// # Errors
     ///
-    /// `Kind`, `Range` or `Float` if the value is not an element of the type. `Memory` if the type
-    /// needs memory and there is none.
+    /// `Kind`, `Range` or `Float` if the value is not an element of the type. `Memory` if the type needs memory and
+    /// there is none.
     fn from_value(alloc: Global, v: &Value) -> Result<Self, ElementError>
         ensures { IsElementAnswer wants_memory (reading (view v.now)) result };
 }
@@ -72,8 +71,7 @@ pub trait ArrayElement: Default {
 ///
 /// # Errors
 ///
-/// `AllocError` if there is no memory for the list or for an element. An array without items needs
-/// no memory.
+/// `AllocError` if there is no memory for the list or for an element. An array without items needs no memory.
 #[tactic(auto, using(std::proofs::lemmas::Grind::common_steps))]
 pub fn serialize<T: ArrayElement, const N: usize>(
     alloc: Global,
@@ -100,9 +98,9 @@ pub fn serialize<T: ArrayElement, const N: usize>(
 ///
 /// # Errors
 ///
-/// In this order: `NotArray` if the value is not a list; `Element`, with its cause, for the first
-/// refused item among the first `N`; `Length` if the list does not have `N` items. The cause
-/// `Memory` occurs only if the element's type may need memory.
+/// In this order: `NotArray` if the value is not a list; `Element`, with its cause, for the first refused item among
+/// the first `N`; `Length` if the list does not have `N` items. The cause `Memory` occurs only if the element's type
+/// may need memory.
 pub fn deserialize<T: ArrayElement + Drop, const N: usize>(
     alloc: Global,
     v: &Value,

@@ -8,13 +8,12 @@ ghost use Rattle.p3_util.specs.Pieces.{CallsOnPieces, pieces};
 
 use std::iter::FusedIterator;
 
-/// Calls `func` on each chunk of `BUFLEN` bytes of `input`, in order. The last chunk may be
-/// shorter. The chunks joined together are the bytes of `input`.
+/// Calls `func` on each chunk of `BUFLEN` bytes of `input`, in order. The last chunk may be shorter. The chunks joined
+/// together are the bytes of `input`.
 ///
-/// The bytes are those before the iterator's first `None`, after which `next` is not called again.
-/// The iterator is dropped after the last call of `func`. If `BUFLEN` is 0, there is no chunk, and
-/// neither `func` nor `next` is called. `BUFLEN` must be below 2^63, and the length of every array
-/// of bytes is.
+/// The bytes are those before the iterator's first `None`, after which `next` is not called again. The iterator is
+/// dropped after the last call of `func`. If `BUFLEN` is 0, there is no chunk, and neither `func` nor `next` is called.
+/// `BUFLEN` must be below 2^63, and the length of every array of bytes is.
 ///
 /// ```
 /// let mut lengths = vec![];
@@ -50,8 +49,8 @@ where
     }
 }
 
-/// Fills `buf` from its start with bytes of `iter`, and returns how many came. If there are fewer
-/// than `N`, `iter` has returned `None` after them.
+/// Fills `buf` from its start with bytes of `iter`, and returns how many came. If there are fewer than `N`, `iter` has
+/// returned `None` after them.
 fn fill<const N: usize, I: Iterator<Item = u8>>(iter: &mut I, buf: &mut [u8; N]) -> usize
     requires can { I.can_next iter.old }
     requires finite { IsFinite (I.remaining iter.old) }
@@ -79,8 +78,7 @@ fn fill<const N: usize, I: Iterator<Item = u8>>(iter: &mut I, buf: &mut [u8; N])
 ///
 /// If `N` does not divide their number, the last array is filled with `default`.
 ///
-/// After that `None`, `next` is not called again. If `N` is 0, there is no array, and `next` is
-/// never called.
+/// After that `None`, `next` is not called again. If `N` is 0, there is no array, and `next` is never called.
 pub fn iter_array_chunks_padded<T: Copy, const N: usize, I: IntoIterator<Item = T>>(
     iter: I,
     default: T,

@@ -1,5 +1,5 @@
-//! The small calls at the bottom of a proof system: bit reversal, transposes, logarithms, chunks,
-//! flattened views, a map in insertion order, a zip of equal lengths, and arrays as JSON.
+//! The small calls at the bottom of a proof system: bit reversal, transposes, logarithms, chunks, flattened views, a
+//! map in insertion order, a zip of equal lengths, and arrays as JSON.
 //!
 //! The kernels and the arithmetic on integers are those of `p3_util_kernels`, re-exported here.
 #![tactic(auto)]

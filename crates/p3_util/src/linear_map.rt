@@ -1,5 +1,4 @@
-//! A map that keeps its pairs in the order of insertion. It finds a key by comparing it with each
-//! stored key.
+//! A map that keeps its pairs in the order of insertion. It finds a key by comparing it with each stored key.
 ghost use Rattle.std.specs.Prelude.{◌≡◌, ◌==◌, List, ◌∷◌, ◌++◌, [], None, Some, IfOk, IfErr, OnOk, OnErr, IsSome, IsOk, position, length};
 ghost use Rattle.std.proofs.Common.{rules};
 ghost use Rattle.std.specs.Cmp.Lexicographic.{pointwise};
@@ -25,8 +24,8 @@ use std::mem::replace;
 use std::ops::Index;
 use std::{slice, vec};
 
-/// A map in insertion order, for few keys. A lookup compares one stored key after the other with the
-/// given one, as in `stored == given`.
+/// A map in insertion order, for few keys. A lookup compares one stored key after the other with the given one, as in
+/// `stored == given`.
 #[derive(Debug, Drop)]
 pub struct LinearMap<K: Eq, V> {
     pairs: Vec<(K, V)>,
@@ -123,8 +122,8 @@ impl<K: Eq, V> LinearMap<K, V> {
         Some(&self.pairs[place].1)
     }
 
-    /// A mutable reference to the value of the pair whose key equals `k`, or `None` if there is no
-    /// such pair. A write changes only that value.
+    /// A mutable reference to the value of the pair whose key equals `k`, or `None` if there is no such pair. A write
+    /// changes only that value.
     pub fn get_mut(&mut self, k: &K) -> Option<&mut V>
         ensures* writes_back { sem 𝓛 (lends_value K.row V.row K.eq self.entry k.now result) }
         ensures value { option_copied_mut result ≡ value_at K.eq self.old k.now }
@@ -137,9 +136,9 @@ impl<K: Eq, V> LinearMap<K, V> {
 impl<K: Eq + Drop, V> LinearMap<K, V> {
     /// Gives `k` the value `v`.
     ///
-    /// A known key keeps its place and its stored spelling: its old value is returned, and `k` is
-    /// dropped. A new pair goes to the end. Only a new pair can need memory. If there is none,
-    /// `NoRoom` returns the pair, and the map is unchanged.
+    /// A known key keeps its place and its stored spelling: its old value is returned, and `k` is dropped. A new pair
+    /// goes to the end. Only a new pair can need memory. If there is none, `NoRoom` returns the pair, and the map is
+    /// unchanged.
     #[inline(always)]
     pub fn insert(&mut self, k: K, v: V) -> Result<Option<V>, NoRoom<(K, V)>>
         ensures old { IfOk result (λ old. old ≡ value_at K.eq self.old k) }
@@ -164,9 +163,9 @@ impl<K: Eq + Drop, V> LinearMap<K, V> {
 
     /// A mutable reference to the value of `k`.
     ///
-    /// For a new key, the call first makes room, and then adds the value that `f` returns at the
-    /// end. For a known key `f` is not called. Only a new key can need memory. If there is none,
-    /// `NoRoom` returns the key, and the map is unchanged.
+    /// For a new key, the call first makes room, and then adds the value that `f` returns at the end. For a known key
+    /// `f` is not called. Only a new key can need memory. If there is none, `NoRoom` returns the key, and the map is
+    /// unchanged.
     pub fn get_or_insert_with<F: FnOnce() -> V>(&mut self, k: K, f: F) -> Result<&mut V, NoRoom<K>>
         requires { value_at K.eq self.old k ≡ None → F.pre f }
         ensures* writes_back { sem 𝓛 (lends_put K.row V.row K.eq self.entry k result) }
@@ -189,8 +188,7 @@ impl<K: Eq + Drop, V> LinearMap<K, V> {
 }
 
 impl<K: Eq + Drop, V: Drop> LinearMap<K, V> {
-    /// The map of the pairs of `it`, inserted in order. If memory runs out, the pairs that were
-    /// taken are dropped.
+    /// The map of the pairs of `it`, inserted in order. If memory runs out, the pairs that were taken are dropped.
     #[tactic(auto, using(std::proofs::lemmas::Grind::common_steps))]
     pub fn try_from_iter<I: IntoIterator<Item = (K, V)>>(
         alloc: Global,
@@ -207,8 +205,7 @@ impl<K: Eq + Drop, V: Drop> LinearMap<K, V> {
             × I.into_iter_gives it from × YieldsThen I.IntoIter.next_gives from xs (Some x) rest
             × (value_at K.eq (put_all K.eq [] xs) x.0 ≡ None)) }
 
-        // The clause `pairs` for one run of `next`. The proof for a chain of iterators needs this
-        // form.
+        // The clause `pairs` for one run of `next`. The proof for a chain of iterators needs this form.
         ensures runs { IfOk result
             (λ m. (from : I.IntoIter) × I.into_iter_gives it from
             × WholeRun I.IntoIter.next_gives from (λ run. m ≡ put_all K.eq [] run.items)) }

@@ -1,5 +1,4 @@
-//! Slices of arrays viewed as one list of their items, and vectors that are moved between the two
-//! shapes.
+//! Slices of arrays viewed as one list of their items, and vectors that are moved between the two shapes.
 
 ghost use Rattle.std.specs.Prelude.{◌*◌, ◌^◌, ◌<◌, SomeIff};
 

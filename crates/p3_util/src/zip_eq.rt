@@ -24,8 +24,8 @@ where
         (λ e. (e ≡ err) × ¬ same)) }
     ensures runs { IfOk result (PairsRuns A.IntoIter.next_gives B.IntoIter.next_gives) }
 
-    // The clause `runs`, with all calls of `next` on both iterators. It lets the proof search of a
-    // caller find the list of the pairs.
+    // The clause `runs`, with all calls of `next` on both iterators. It lets the proof search of a caller find the list
+    // of the pairs.
     ensures asked { IfOk result (AskedRuns A.IntoIter.next_gives B.IntoIter.next_gives) }
 
     // If the lengths that both iterators state are true, the length that the pairs state is true.

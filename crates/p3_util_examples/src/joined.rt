@@ -1,7 +1,6 @@
-//! Two slices seen as one list, which a kernel reorders like any other holder, and callers. In the
-//! function that makes a struct of two `&mut`, a proof does not know what is behind both when they
-//! end, so `reverse_joined` takes the holder. To use the file elsewhere, copy `count_swaps` and
-//! `proofs/JoinedLemmas.antt` too.
+//! Two slices seen as one list, which a kernel reorders like any other holder, and callers. In the function that makes
+//! a struct of two `&mut`, a proof does not know what is behind both when they end, so `reverse_joined` takes the
+//! holder. To use the file elsewhere, copy `count_swaps` and `proofs/JoinedLemmas.antt` too.
 
 ghost use Rattle.std.specs.Prelude.{◌≡◌, ◌+◌, ◌++◌, ◌^◌, ◌<◌, length, swap};
 ghost use Rattle.std.proofs.Common.{rules};
@@ -11,8 +10,7 @@ use crate::uses::count_swaps;
 use p3_util::places::Places;
 use std::mem;
 
-/// The items of one slice and then those of another one. When the borrows end, its items are in the
-/// two slices.
+/// The items of one slice and then those of another one. When the borrows end, its items are in the two slices.
 #[derive(Drop)]
 pub struct Joined<'a, F> {
     front: &'a mut [F],
@@ -89,8 +87,7 @@ fn exchange_between<F>(front: &mut [F], i: usize, back: &mut [F], j: usize)
     mem::swap(&mut front[i], &mut back[j]);
 }
 
-/// Reverses the list that is the front and then the back by index bits. Each slice keeps its
-/// length.
+/// Reverses the list that is the front and then the back by index bits. Each slice keeps its length.
 pub fn reverse_joined<F>(joined: &mut Joined<F>)
     requires { IsReversible (length (joined.old.front.now ++ joined.old.back.now)) }
     ensures order { IsReversal (joined.old.front.now ++ joined.old.back.now)

@@ -1,5 +1,5 @@
-//! A number-theoretic transform of the columns of a matrix, built on the calls of `p3_util`. It is
-//! an example to read and to copy from.
+//! A number-theoretic transform of the columns of a matrix, built on the calls of `p3_util`. It is an example to read
+//! and to copy from.
 //!
 //! ```text
 //! let mut matrix = RowMajorMatrix::new(values, width).ok_or(..)?;
@@ -8,8 +8,8 @@
 //! }
 //! ```
 //!
-//! The meaning of the calls is defined in `specs/Transform.antt`, by sums, powers and remainders.
-//! The definitions do not depend on the algorithm.
+//! The meaning of the calls is defined in `specs/Transform.antt`, by sums, powers and remainders. The definitions do
+//! not depend on the algorithm.
 //!
 //! - `field`: numbers modulo a prime, and a root of order `2^k` for each k up to 27.
 //! - `matrix`: a matrix in row-major order. The reversal of its rows and its transpose are one call
@@ -17,12 +17,11 @@
 //! - `transform` itself: the rows are reversed by index bits. Then k stages follow, each of which
 //!   joins pairs of neighbouring blocks of rows, until there is one block.
 //!
-//! The proof follows the stages. After s of them there are `2^(k - s)` blocks of `2^s` rows, and
-//! block b is the transform of the rows that are `2^(k - s)` apart from row `rev (k - s) b` on
-//! (`IsStage`). Before the first stage, this is what the contract of `reverse_slice_row_index_bits`
-//! says about blocks of one row. After the last stage, it is the transform. Each stage is right
-//! because `rev (m + 1) (2 * b + c)` is `c * 2^m + rev m b`, and because a root to the power of
-//! half its order is -1.
+//! The proof follows the stages. After s of them there are `2^(k - s)` blocks of `2^s` rows, and block b is the
+//! transform of the rows that are `2^(k - s)` apart from row `rev (k - s) b` on (`IsStage`). Before the first stage,
+//! this is what the contract of `reverse_slice_row_index_bits` says about blocks of one row. After the last stage, it
+//! is the transform. Each stage is right because `rev (m + 1) (2 * b + c)` is `c * 2^m + rev m b`, and because a root
+//! to the power of half its order is -1.
 
 ghost use Rattle.std.specs.Prelude.{◌≡◌, ℕ, ◌-◌, ◌*◌, ◌/◌, ◌%◌, ◌^◌, ◌<◌, ◌≤◌, ◌↔◌, IfOk, IsTrue, OnErr, OnOk, length, slice_index};
 ghost use Rattle.p3_util.specs.Reversal.{FitsRows, IsRowReversal};
@@ -41,8 +40,7 @@ use p3_util::{
 use stage::{Twiddles, join_blocks};
 use std::alloc::{AllocError, Global};
 
-/// Whether `matrix` has `2^k` rows, with `k` at most [`MOST_STAGES`], and all its numbers are below
-/// [`PRIME`].
+/// Whether `matrix` has `2^k` rows, with `k` at most [`MOST_STAGES`], and all its numbers are below [`PRIME`].
 pub fn fits_transform(matrix: &RowMajorMatrix<u32>) -> bool
     ensures { IsTrue result ↔ FitsTransform matrix.now }
 {
@@ -57,12 +55,11 @@ fn has_root(height: usize) -> bool
     levels <= MOST_STAGES && height == 1 << levels
 }
 
-/// Transforms each column in place. With `2^k` rows, row `r` becomes the sum of all rows `j`, each
-/// multiplied by the root of order `2^k` to the power of `r * j`, modulo the prime.
-/// [`fits_transform`] checks the matrix.
+/// Transforms each column in place. With `2^k` rows, row `r` becomes the sum of all rows `j`, each multiplied by the
+/// root of order `2^k` to the power of `r * j`, modulo the prime. [`fits_transform`] checks the matrix.
 ///
-/// The call needs memory for powers of the root: half as many numbers as there are rows. If there
-/// is none, the matrix is unchanged.
+/// The call needs memory for powers of the root: half as many numbers as there are rows. If there is none, the matrix
+/// is unchanged.
 pub fn transform_columns(alloc: Global, matrix: &mut RowMajorMatrix<u32>) -> Result<(), AllocError>
     requires { FitsTransform matrix.old }
     ensures transformed { (k : ℕ) → matrix.old.height ≡ 2 ^ k → OnOk result
@@ -84,9 +81,8 @@ pub fn transform_columns(alloc: Global, matrix: &mut RowMajorMatrix<u32>) -> Res
     Ok(())
 }
 
-/// The inverse of [`transform_columns`], under the same condition. Row `r` becomes the sum of all
-/// rows `j`, each multiplied by the inverse of the root to the power of `r * j`, and by the inverse
-/// of the number of rows.
+/// The inverse of [`transform_columns`], under the same condition. Row `r` becomes the sum of all rows `j`, each
+/// multiplied by the inverse of the root to the power of `r * j`, and by the inverse of the number of rows.
 pub fn inverse_transform_columns(
     alloc: Global,
     matrix: &mut RowMajorMatrix<u32>,
@@ -249,8 +245,7 @@ fn transform_rows(values: &mut [u32], width: usize, levels: usize, powers: &[u32
     }
 }
 
-/// 2 to the power of `exponent`. This is a function of its own, so that a proof knows nothing except
-/// the power.
+/// 2 to the power of `exponent`. This is a function of its own, so that a proof knows nothing except the power.
 fn power(exponent: usize) -> usize
     requires { exponent < 64 }
     ensures { result ≡ 2 ^ exponent }

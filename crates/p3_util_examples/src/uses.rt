@@ -38,8 +38,8 @@ pub fn reverse_power_of_two<F>(vals: &mut [F])
     }
 }
 
-/// Writes the transpose of a part of a matrix and returns `true`, if the part lies in the matrix
-/// and both lists have the length of the matrix. Otherwise returns `false` and changes nothing.
+/// Writes the transpose of a part of a matrix and returns `true`, if the part lies in the matrix and both lists have
+/// the length of the matrix. Otherwise returns `false` and changes nothing.
 pub fn transpose_part_where_it_fits<C: Cells>(
     input: &[C::Item],
     out: &mut Writes<C>,
@@ -70,8 +70,8 @@ pub fn levels_of(rows: usize, cols: usize) -> u32
     (tall + wide) as u32
 }
 
-/// Writes the transpose of a region of any source, with 64 levels, which are enough for every
-/// region. Returns the number of writes.
+/// Writes the transpose of a region of any source, with 64 levels, which are enough for every region. Returns the
+/// number of writes.
 #[tactic(auto, using(p3_util_kernels::proofs::TransposeLemmas::Halves::region_levels))]
 pub fn transpose_source_by_splits<R, C>(
     input: &R,
@@ -121,8 +121,8 @@ pub fn count_swaps<S: Places>(places: &mut S) -> u128
     m.swaps()
 }
 
-/// The same for a slice. The function above makes the call over any holder, and this one makes the
-/// holder, so it knows what is in the slice afterwards.
+/// The same for a slice. The function above makes the call over any holder, and this one makes the holder, so it knows
+/// what is in the slice afterwards.
 pub fn count_swaps_of_slice<T>(vals: &mut [T]) -> u128
     requires { IsReversible (length vals.old) }
     ensures order { IsReversal vals.old vals.new }
@@ -131,9 +131,8 @@ pub fn count_swaps_of_slice<T>(vals: &mut [T]) -> u128
     count_swaps(&mut SlicePlaces::new(vals))
 }
 
-/// Reverses the items of `rows`, taken as one list, by index bits and returns `true`. If their
-/// number does not fit in a `usize`, or is neither zero nor a power of two, returns `false` and
-/// changes nothing.
+/// Reverses the items of `rows`, taken as one list, by index bits and returns `true`. If their number does not fit in a
+/// `usize`, or is neither zero nor a power of two, returns `false` and changes nothing.
 pub fn reverse_items_where_they_fit<T, const N: usize>(rows: &mut [[T; N]]) -> bool
     ensures done { IsTrue result → IsReversal (flat rows.old) (flat rows.new) }
     ensures left { IsFalse result → rows.new ≡ rows.old }
@@ -151,8 +150,8 @@ pub fn reverse_items_where_they_fit<T, const N: usize>(rows: &mut [[T; N]]) -> b
     fits
 }
 
-/// Makes elements of an extension field of the numbers, four numbers each, and flattens them again,
-/// which returns the same numbers.
+/// Makes elements of an extension field of the numbers, four numbers each, and flattens them again, which returns the
+/// same numbers.
 pub fn reconstituted_and_back(alloc: Global, numbers: Vec<u64>) -> Result<Vec<u64>, AllocError>
     requires { vec_len numbers % 4 ≡ 0 }
     ensures { IfOk result (λ again. again.items ≡ numbers.items) }
@@ -189,8 +188,7 @@ pub fn absorb_blocks<H: FnMut(&[u8]) + Drop>(bytes: &[u8], absorb: H)
     apply_to_chunks::<64, _, H>(bytes.iter().copied(), absorb);
 }
 
-/// Cuts `xs` into lanes of 4. If 4 does not divide the length, the last lane is filled up with
-/// `fill`.
+/// Cuts `xs` into lanes of 4. If 4 does not divide the length, the last lane is filled up with `fill`.
 pub fn lanes(alloc: Global, xs: &[u32], fill: u32) -> Result<Vec<[u32; 4]>, AllocError>
     ensures { IfOk result (λ v. v.items ≡ padded_pieces 4 fill xs.now) }
 {

@@ -1,10 +1,10 @@
 //! Many steps at once, only for speed: tiles and runs of places, and blocks of cells.
 //!
-//! A kernel is generic over these traits. Each method that changes a list has a body of single
-//! steps, and a contract that counts them. A holder of a slice may have a faster way to do the same.
-//! Where it has none, it can call the method whose name ends in `_singly`, which makes single steps.
-//! A counter keeps these bodies, so it makes and counts each step by itself. A call runs its kernel
-//! on a holder of its own slice, or on a counter. So a holder of a caller needs none of these traits.
+//! A kernel is generic over these traits. Each method that changes a list has a body of single steps, and a contract
+//! that counts them. A holder of a slice may have a faster way to do the same. Where it has none, it can call the
+//! method whose name ends in `_singly`, which makes single steps. A counter keeps these bodies, so it makes and counts
+//! each step by itself. A call runs its kernel on a holder of its own slice, or on a counter. So a holder of a caller
+//! needs none of these traits.
 
 ghost use Rattle.std.specs.Prelude.{◌≡◌, ℕ, ◌+◌, ◌*◌, ◌<◌, ◌≤◌, ◌⊎◌, IfSome, length};
 ghost use Rattle.p3_util_fast.specs.BlockPut.{BlockFits, IsBlockPut, block_items};
@@ -17,8 +17,8 @@ use p3_util_kernels::places::{Cells, Places, Source, len_fits};
 
 /// A block of a matrix, and where its transpose goes.
 ///
-/// The item in row r and column c of the block is at index `from + r * width + c` of a source. In
-/// the transpose, it belongs into cell `to + c * height + r`.
+/// The item in row r and column c of the block is at index `from + r * width + c` of a source. In the transpose, it
+/// belongs into cell `to + c * height + r`.
 #[derive(Clone, Copy)]
 #[doc(hidden)]
 pub struct Block {
@@ -39,11 +39,10 @@ pub struct Block {
 /// Places of which tiles and runs can be exchanged.
 #[doc(hidden)]
 pub trait Tiled: Places {
-    /// Exchanges two tiles of 8 by 8 items, each with the mirror image of the other. The item in
-    /// row r and column c of a tile goes to row c and column r of the other tile. Row r of the one
-    /// tile is the 8 places from `x[r]` on, and row r of the other the 8 places from `y[r]` on. No
-    /// two of these 16 rows may overlap. A holder may have a faster way to do this than 64 calls of
-    /// `exchange`.
+    /// Exchanges two tiles of 8 by 8 items, each with the mirror image of the other. The item in row r and column c of
+    /// a tile goes to row c and column r of the other tile. Row r of the one tile is the 8 places from `x[r]` on, and
+    /// row r of the other the 8 places from `y[r]` on. No two of these 16 rows may overlap. A holder may have a faster
+    /// way to do this than 64 calls of `exchange`.
     #[inline(always)]
     fn exchange_tiles(&mut self, x: [usize; 8], y: [usize; 8])
         requires { AreTiles x y (length (Self.items self.old)) }
@@ -58,10 +57,9 @@ pub trait Tiled: Places {
         }
     }
 
-    /// Transposes a tile of 8 by 8 items in place. For all r < c, the item in row r and column c is
-    /// exchanged with the item in row c and column r. Row r is the 8 places from `x[r]` on. No two
-    /// of the 8 rows may overlap. A holder may have a faster way to do this than 28 calls of
-    /// `exchange`.
+    /// Transposes a tile of 8 by 8 items in place. For all r < c, the item in row r and column c is exchanged with the
+    /// item in row c and column r. Row r is the 8 places from `x[r]` on. No two of the 8 rows may overlap. A holder may
+    /// have a faster way to do this than 28 calls of `exchange`.
     #[inline(always)]
     fn turn_tile(&mut self, x: [usize; 8])
         requires { IsTile x (length (Self.items self.old)) }
@@ -86,15 +84,14 @@ pub trait Tiled: Places {
         }
     }
 
-    /// A hint that a call of `exchange_tiles` with the same arguments may come soon. Nothing has to
-    /// follow from it, and the list stays as it is. A holder may fetch the tiles into a cache. The
-    /// arguments may be any numbers.
+    /// A hint that a call of `exchange_tiles` with the same arguments may come soon. Nothing has to follow from it, and
+    /// the list stays as it is. A holder may fetch the tiles into a cache. The arguments may be any numbers.
     #[inline(always)]
     fn expect_tiles(&self, _x: [usize; 8], _y: [usize; 8]) {}
 
-    /// Exchanges two runs of `len` consecutive items, those from place `i` on and those from place
-    /// `j` on. Each run keeps its order. The runs must not overlap. A holder may have a faster way
-    /// to do this than `len` calls of `exchange`.
+    /// Exchanges two runs of `len` consecutive items, those from place `i` on and those from place `j` on. Each run
+    /// keeps its order. The runs must not overlap. A holder may have a faster way to do this than `len` calls of
+    /// `exchange`.
     #[inline(always)]
     fn exchange_runs(&mut self, i: usize, j: usize, len: usize)
         requires apart { (i + len ≤ j) ⊎ (j + len ≤ i) }
@@ -113,10 +110,10 @@ pub trait Tiled: Places {
 /// Cells into which blocks can be put.
 #[doc(hidden)]
 pub trait Blocked: Cells {
-    /// Puts the transpose of a block. For each row r and column c of the block, the item at index
-    /// `from + r * width + c` of `source` is put into cell `to + c * height + r`. All other cells
-    /// keep their items. The columns of the block must not overlap in the cells. A holder may have
-    /// a faster way to do this than one call of `put` for each item.
+    /// Puts the transpose of a block. For each row r and column c of the block, the item at index `from + r * width +
+    /// c` of `source` is put into cell `to + c * height + r`. All other cells keep their items. The columns of the
+    /// block must not overlap in the cells. A holder may have a faster way to do this than one call of `put` for each
+    /// item.
     #[inline(always)]
     fn put_block<R: Ahead<Item = Self::Item>>(&mut self, source: &R, block: Block)
     where
@@ -160,13 +157,13 @@ pub trait Blocked: Cells {
 /// A source that can be told what is read next, and may have all items in a slice.
 #[doc(hidden)]
 pub trait Ahead: Source {
-    /// A hint that the item at index `i` may be read soon. Nothing has to follow from it. A holder
-    /// may fetch the item into a cache. The index may be any number.
+    /// A hint that the item at index `i` may be read soon. Nothing has to follow from it. A holder may fetch the item
+    /// into a cache. The index may be any number.
     #[inline(always)]
     fn expect(&self, _i: usize) {}
 
-    /// The items as a slice, if they are next to each other in memory in this order. A holder of
-    /// cells can then read more than one of them at once.
+    /// The items as a slice, if they are next to each other in memory in this order. A holder of cells can then read
+    /// more than one of them at once.
     #[inline(always)]
     fn as_slice(&self) -> Option<&[Self::Item]>
         ensures { IfSome result (λ slice. slice.now ≡ Self.items self.now) }

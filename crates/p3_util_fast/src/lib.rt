@@ -1,9 +1,8 @@
-//! Bit reversal and transposes of slices, as in `p3_util_kernels`, by faster ways and with the same
-//! contracts.
+//! Bit reversal and transposes of slices, as in `p3_util_kernels`, by faster ways and with the same contracts.
 //!
-//! The kernels here are generic over traits above `Places`, `Cells` and `Source`, whose methods make
-//! many steps at once. Each such method has a proved body of single steps, and a holder of slices may
-//! have a faster one. The hidden modules are for the crates of the package of plain Rust.
+//! The kernels here are generic over traits above `Places`, `Cells` and `Source`, whose methods make many steps at
+//! once. Each such method has a proved body of single steps, and a holder of slices may have a faster one. The hidden
+//! modules are for the crates of the package of plain Rust.
 #![tactic(auto)]
 
 #[doc(hidden)]

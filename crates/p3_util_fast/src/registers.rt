@@ -1,10 +1,8 @@
-//! Squares of items that are transposed in registers, for holders that can read, write and interleave
-//! registers.
+//! Squares of items that are transposed in registers, for holders that can read, write and interleave registers.
 //!
-//! A *register* holds some items, one after another. The rows of a square, one after another, are one
-//! list, which is in some registers. A *stage* interleaves the first half of this list with the second
-//! half, as a perfect shuffle of cards does. Two stages turn the rows of a square of 4 by 4 into its
-//! columns:
+//! A *register* holds some items, one after another. The rows of a square, one after another, are one list, which is in
+//! some registers. A *stage* interleaves the first half of this list with the second half, as a perfect shuffle of
+//! cards does. Two stages turn the rows of a square of 4 by 4 into its columns:
 //!
 //! ```text
 //!              first half                  second half
@@ -13,21 +11,21 @@
 //! stage two    a0 b0 c0 d0  a1 b1 c1 d1    a2 b2 c2 d2  a3 b3 c3 d3
 //! ```
 //!
-//! A square of 2 rows takes one stage, and a square of 8 rows takes three. The same is true of several
-//! squares side by side, whose rows have 8 items together. So 8 rows of squares, in four registers of
-//! two rows each, are transposed at once. `low` and `high` interleave the halves of two registers. They
-//! are one instruction each, which manuals name `unpack` (x86-64) or `zip` (aarch64).
+//! A square of 2 rows takes one stage, and a square of 8 rows takes three. The same is true of several squares side by
+//! side, whose rows have 8 items together. So 8 rows of squares, in four registers of two rows each, are transposed at
+//! once. `low` and `high` interleave the halves of two registers. They are one instruction each, which manuals name
+//! `unpack` (x86-64) or `zip` (aarch64).
 //!
 //! A stage here rotates the bits of an item's index by one, while a stage of
-//! [`butterfly_4x4`](p3_util_kernels::transpose::butterfly_4x4) exchanges one bit of the row number with the same
-//! bit of the column number: after two stages of either, the two numbers are exchanged.
+//! [`butterfly_4x4`](p3_util_kernels::transpose::butterfly_4x4) exchanges one bit of the row number with the same bit
+//! of the column number: after two stages of either, the two numbers are exchanged.
 
 ghost use Rattle.std.specs.Prelude.{◌≡◌, ℕ, ◌+◌, ◌-◌, ◌*◌, ◌/◌, ◌%◌, ◌^◌, ◌<◌, ◌≤◌, ◌⊎◌, List, [], ◌∷◌, ◌++◌, length, refl, slice_get, slice_index};
 ghost use Rattle.std.proofs.Common.{arith, length-append};
 ghost use Rattle.p3_util_fast.specs.Registers.{AreDisjoint, AreColumns, AreInterleaved, AreLoaded, AreReached, AreStored, IsNextStage, IsSide, IsRunStored, IsStored, items_of_four};
 
-/// What a function returns for 0 to 7 as its last argument. With a loop, the compiler would move registers back and forth in the
-/// loop over the blocks.
+/// What a function returns for 0 to 7 as its last argument. With a loop, the compiler would move registers back and
+/// forth in the loop over the blocks.
 macro_rules! eight {
     ($value:ident($($given:expr),*)) => {
         [
@@ -83,8 +81,8 @@ pub(crate) trait Register<T>: Copy {
 
 /// A list in which a run of items, half a register, can be read at once.
 ///
-/// A holder also says which runs may be read, by `may`. A function that is generic over this trait is
-/// proved for whatever it says, so it reads no run but those for which its own `requires` asks.
+/// A holder also says which runs may be read, by `may`. A function that is generic over this trait is proved for
+/// whatever it says, so it reads no run but those for which its own `requires` asks.
 pub(crate) trait Loads<T, D: Register<T>> {
     ghost items: { Self → List T };
 
@@ -119,8 +117,8 @@ pub(crate) trait Runs<T, D: Register<T>>: Loads<T, D> {
         ensures reach { Self.reach self.new ≡ Self.reach self.old }
         ensures holder { same_holder D.SIDE self.old self.new };
 
-    /// Does the same as `store`. It is for a run that the kernel does not use again, so a holder may store it past the caches.
-    /// No clause says that the run is not used again: that would take longer, and leave the same items.
+    /// Does the same as `store`. It is for a run that the kernel does not use again, so a holder may store it past the
+    /// caches. No clause says that the run is not used again: that would take longer, and leave the same items.
     fn stream(&mut self, place: usize, run: D::Half)
         requires { Self.may_stream (Self.reach self.old) place }
         ensures stored { IsRunStored D.SIDE place (D.half_items run) (Self.items self.old) (Self.items self.new) }
@@ -185,8 +183,8 @@ fn load<T, D: Register<T>, S: Loads<T, D>>(list: &S, from: [usize; 8]) -> Four<D
     }
 }
 
-/// The places at which the registers of a stage are read, in their order. `places` has the first place
-/// of each row of the squares, one square after another.
+/// The places at which the registers of a stage are read, in their order. `places` has the first place of each row of
+/// the squares, one square after another.
 #[inline(always)]
 fn in_order(places: [usize; 8], side: usize) -> [usize; 8]
     requires { IsSide side }
@@ -205,8 +203,8 @@ fn in_order(places: [usize; 8], side: usize) -> [usize; 8]
     places
 }
 
-/// Reads squares, which are 8 rows together, and transposes them. `places` has the first place of each
-/// row, one square after another.
+/// Reads squares, which are 8 rows together, and transposes them. `places` has the first place of each row, one square
+/// after another.
 #[inline(always)]
 fn load_columns<T, D: Register<T>, S: Loads<T, D>>(list: &S, places: [usize; 8]) -> Four<D>
     requires some_side { IsSide D.SIDE }
@@ -282,8 +280,7 @@ fn in_columns(x: [usize; 8], tops: [usize; 8]) -> [usize; 8]
     ]
 }
 
-/// The first place of row `c` of some squares side by side, if the first row of its square is row
-/// `tops[c]` of a tile.
+/// The first place of row `c` of some squares side by side, if the first row of its square is row `tops[c]` of a tile.
 #[inline(always)]
 fn row_of_squares(x: [usize; 8], side: usize, tops: [usize; 8], c: usize) -> usize
     requires some_side { IsSide side }
@@ -295,8 +292,8 @@ fn row_of_squares(x: [usize; 8], side: usize, tops: [usize; 8], c: usize) -> usi
     x[tops[c] + c % side] + (c - c % side)
 }
 
-/// The first place of each row of some squares side by side, if the first row of the square of row `c`
-/// is row `tops[c]` of a tile.
+/// The first place of each row of some squares side by side, if the first row of the square of row `c` is row `tops[c]`
+/// of a tile.
 #[inline(always)]
 fn in_rows(x: [usize; 8], side: usize, tops: [usize; 8]) -> [usize; 8]
     requires some_side { IsSide side }

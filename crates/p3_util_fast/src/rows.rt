@@ -1,22 +1,20 @@
-//! Bit reversal of the order of rows of any width. Each pair of rows whose indices are each other's
-//! reverse is exchanged once. Single items are reversed as rows of one item.
+//! Bit reversal of the order of rows of any width. Each pair of rows whose indices are each other's reverse is
+//! exchanged once. Single items are reversed as rows of one item.
 //!
-//! There are 2^k rows, and the index of a row has three parts. The high part has `half = k / 2`
-//! digits, and `x` stands for its reverse. The part `middle` is one digit if k is odd, and empty
-//! otherwise. The low part `y` has `half` digits. In the reversed index, `x` and `y` have changed
-//! places:
+//! There are 2^k rows, and the index of a row has three parts. The high part has `half = k / 2` digits, and `x` stands
+//! for its reverse. The part `middle` is one digit if k is odd, and empty otherwise. The low part `y` has `half`
+//! digits. In the reversed index, `x` and `y` have changed places:
 //!
 //! ```text
 //!     index      rev(x)  middle  y         k = 5, x = 01, middle = 1, y = 11:   10 1 11
 //!     reversed   rev(y)  middle  x                                              11 1 01
 //! ```
 //!
-//! So for each middle digit and all `x < y`, the row of `x` and `y` is exchanged with the row of
-//! `y` and `x`. This reaches each pair of rows exactly once, so no loop has to test an index. All
-//! other rows stay where they are.
+//! So for each middle digit and all `x < y`, the row of `x` and `y` is exchanged with the row of `y` and `x`. This
+//! reaches each pair of rows exactly once, so no loop has to test an index. All other rows stay where they are.
 //!
-//! The rows with the same middle digit form a [`Grid`]: the row of `x` and `y` is the place of row
-//! `x` and column `y`, and is exchanged with the place of row `y` and column `x`.
+//! The rows with the same middle digit form a [`Grid`]: the row of `x` and `y` is the place of row `x` and column `y`,
+//! and is exchanged with the place of row `y` and column `x`.
 
 ghost use Rattle.std.specs.Prelude.{◌≡◌, ℕ, ◌+◌, ◌-◌, ◌*◌, ◌/◌, ◌^◌, ◌<◌, ◌≤◌, length};
 ghost use Rattle.p3_util_fast.specs.Grid.{grid_of_rows};
@@ -28,8 +26,7 @@ use crate::bulk::Tiled;
 use crate::grid::{Grid, exchange_square};
 use p3_util_kernels::bits::{log2_strict_usize, pow2};
 
-/// Rows of `width` items each, whose indices have `digits` binary digits: there are `2^digits`
-/// rows, or none.
+/// Rows of `width` items each, whose indices have `digits` binary digits: there are `2^digits` rows, or none.
 #[derive(Clone, Copy)]
 #[doc(hidden)]
 pub struct RowDigits {
@@ -82,9 +79,9 @@ pub fn reverse_rows<M: Tiled>(m: M, row_width: usize) -> M
     ensures holder { M.same_holder (row_swaps (length (M.items m)) row_width) m result }
 {
     let rows = RowDigits::of(m.len(), row_width);
-    // In the cases with a fixed number of digits, the compiler unrolls the exchanges of all pairs.
-    // Each further case would be one more copy of these exchanges. With too many copies, Rattle's
-    // compiler no longer inlines this function.
+    // In the cases with a fixed number of digits, the compiler unrolls the exchanges of all pairs. Each further case
+    // would be one more copy of these exchanges. With too many copies, Rattle's compiler no longer inlines this
+    // function.
     match rows.digits {
         2 => exchange_pairs(m, RowDigits { digits: 2, ..rows }, true),
         3 => exchange_pairs(m, RowDigits { digits: 3, ..rows }, true),
@@ -94,8 +91,8 @@ pub fn reverse_rows<M: Tiled>(m: M, row_width: usize) -> M
     }
 }
 
-/// Exchanges all pairs of rows whose indices are each other's reverse. In each grid this is done by
-/// quadrants or row by row.
+/// Exchanges all pairs of rows whose indices are each other's reverse. In each grid this is done by quadrants or row by
+/// row.
 #[inline(always)]
 fn exchange_pairs<M: Tiled>(m: M, rows: RowDigits, row_by_row: bool) -> M
     requires fits { FitsRows (length (M.items m)) rows.width }
@@ -115,8 +112,8 @@ fn exchange_pairs<M: Tiled>(m: M, rows: RowDigits, row_by_row: bool) -> M
     m
 }
 
-/// Does the same as [`exchange_pairs`], by quadrants, in a function of its own. So a call with few
-/// rows needs no stack frame, which would take longer than its exchanges.
+/// Does the same as [`exchange_pairs`], by quadrants, in a function of its own. So a call with few rows needs no stack
+/// frame, which would take longer than its exchanges.
 #[inline(never)]
 pub(crate) fn exchange_pairs_outlined<M: Tiled>(m: M, rows: RowDigits) -> M
     requires fits { FitsRows (length (M.items m)) rows.width }

@@ -4,8 +4,8 @@
 //!   from top to bottom.
 //! - A *square* is a block of 4 by 4 or of 8 by 8 items of a strip.
 //!
-//! [`Strips`] says how many rows a strip has, and whether it is put column after column or by
-//! squares. That choice only changes the order of the puts.
+//! [`Strips`] says how many rows a strip has, and whether it is put column after column or by squares. That choice only
+//! changes the order of the puts.
 
 ghost use Rattle.std.specs.Prelude.{◌≡◌, ◌+◌, ◌<◌, ◌≤◌};
 
@@ -17,8 +17,7 @@ use p3_util_kernels::transpose::{Matrix, Region};
 #[doc(hidden)]
 pub const TINY_MATRIX: usize = 256;
 
-/// If the width of a matrix is a multiple of this, its strips are low. Parts of a transpose begin at
-/// multiples of it.
+/// If the width of a matrix is a multiple of this, its strips are low. Parts of a transpose begin at multiples of it.
 #[doc(hidden)]
 pub const UNIT: usize = 16;
 
@@ -32,8 +31,8 @@ const LOW_ROWS: usize = 24;
 /// The greatest number of rows of a lowest strip.
 const LOWEST_ROWS: usize = 16;
 
-/// How a region is put in strips. Strips by squares have at most `ROWS` rows, and their squares have
-/// `SIDE` rows and columns. If `SIDE` is 1, these strips too are put column after column.
+/// How a region is put in strips. Strips by squares have at most `ROWS` rows, and their squares have `SIDE` rows and
+/// columns. If `SIDE` is 1, these strips too are put column after column.
 #[derive(Clone, Copy)]
 #[doc(hidden)]
 pub enum Strips<const SIDE: usize, const ROWS: usize> {
@@ -67,8 +66,8 @@ impl<const SIDE: usize, const ROWS: usize> PutRegion for Strips<SIDE, ROWS> {
     }
 }
 
-/// Puts a strip by squares: `SIDE` columns at a time, and in these one square after another. Then
-/// follow the columns to the right of all squares, and then the rows below them, column after column.
+/// Puts a strip by squares: `SIDE` columns at a time, and in these one square after another. Then follow the columns to
+/// the right of all squares, and then the rows below them, column after column.
 #[derive(Clone, Copy)]
 struct Squares<const SIDE: usize>;
 

@@ -13,8 +13,7 @@
 //!   for all ways. A number of rows or columns in a type that is 0 stands for 1, so that each part
 //!   has items.
 //!
-//! Each way takes the holder by value and returns it. This keeps the holder in registers in the
-//! loops.
+//! Each way takes the holder by value and returns it. This keeps the holder in registers in the loops.
 
 ghost use Rattle.std.specs.Prelude.{◌≡◌, ◌+◌, ◌*◌, ◌<◌};
 ghost use Rattle.p3_util_fast.specs.Columns.{HoldsColumn, IsColumnPut};
@@ -26,8 +25,7 @@ use p3_util_kernels::transpose::{Matrix, Region};
 /// A column is put by loops over this many items each. The compiler knows how long these loops are.
 const COLUMN_ITEMS: usize = 8;
 
-/// A way to put a region. The caller of a kernel chooses it. The contract is the same for all of
-/// them.
+/// A way to put a region. The caller of a kernel chooses it. The contract is the same for all of them.
 #[doc(hidden)]
 pub trait PutRegion: Copy {
     /// Puts `region` in this way.
@@ -44,8 +42,8 @@ pub trait PutRegion: Copy {
         ensures holder { M.same_holder (items_of region) out result };
 }
 
-/// `InRows(whole, rest)` puts `ROWS` rows at a time, from top to bottom. Parts of `ROWS` rows are put
-/// in the way `whole`, and the last one in the way `rest` if it has fewer rows.
+/// `InRows(whole, rest)` puts `ROWS` rows at a time, from top to bottom. Parts of `ROWS` rows are put in the way
+/// `whole`, and the last one in the way `rest` if it has fewer rows.
 #[derive(Clone, Copy)]
 #[doc(hidden)]
 pub struct InRows<const ROWS: usize, W, V>(pub W, pub V);
@@ -76,8 +74,8 @@ impl<const ROWS: usize, W: PutRegion, V: PutRegion> PutRegion for InRows<ROWS, W
     }
 }
 
-/// `InCols(whole, rest)` puts `COLS` columns at a time, from left to right, in the way `whole`, and
-/// then the columns that remain in the way `rest`.
+/// `InCols(whole, rest)` puts `COLS` columns at a time, from left to right, in the way `whole`, and then the columns
+/// that remain in the way `rest`.
 #[derive(Clone, Copy)]
 #[doc(hidden)]
 pub struct InCols<const COLS: usize, W, V>(pub W, pub V);
@@ -106,8 +104,8 @@ impl<const COLS: usize, W: PutRegion, V: PutRegion> PutRegion for InCols<COLS, W
     }
 }
 
-/// `Blocks(rest)` puts blocks of `ROWS` rows, from top to bottom, in the holder's own way. They have
-/// all columns of the region. The rows that remain are put in the way `rest`.
+/// `Blocks(rest)` puts blocks of `ROWS` rows, from top to bottom, in the holder's own way. They have all columns of the
+/// region. The rows that remain are put in the way `rest`.
 #[derive(Clone, Copy)]
 #[doc(hidden)]
 pub struct Blocks<const ROWS: usize, V>(pub V);
@@ -139,8 +137,8 @@ impl<const ROWS: usize, V: PutRegion> PutRegion for Blocks<ROWS, V> {
     }
 }
 
-/// Puts a region in this way, by a function that is not inlined. So its loops take no registers from
-/// those of the caller.
+/// Puts a region in this way, by a function that is not inlined. So its loops take no registers from those of the
+/// caller.
 #[derive(Clone, Copy)]
 #[doc(hidden)]
 pub struct Outlined<W>(pub W);
@@ -194,8 +192,8 @@ pub fn put_as_block<M: Blocked, R: Ahead<Item = M::Item> + Copy>(
 /// A way to put one column of a region. It is also a way to put a region, column after column.
 #[doc(hidden)]
 pub trait PutColumn: Copy {
-    /// Puts a column of `rows` items into consecutive cells from `to` on. The column begins at index
-    /// `from` of the source.
+    /// Puts a column of `rows` items into consecutive cells from `to` on. The column begins at index `from` of the
+    /// source.
     fn put_column<M: Blocked, R: Ahead<Item = M::Item> + Copy>(
         self,
         out: M,
@@ -262,8 +260,8 @@ impl PutColumn for Columns {
     }
 }
 
-/// Puts a column by one loop. If the columns are short, this takes fewer instructions than
-/// [`Columns`] does, most of all in a build without optimization for speed.
+/// Puts a column by one loop. If the columns are short, this takes fewer instructions than [`Columns`] does, most of
+/// all in a build without optimization for speed.
 #[derive(Clone, Copy)]
 #[doc(hidden)]
 pub struct ShortColumns;

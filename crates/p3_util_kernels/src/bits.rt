@@ -1,5 +1,4 @@
-//! Logarithms and powers of integers, the reversal of their binary digits, and the short names of
-//! types.
+//! Logarithms and powers of integers, the reversal of their binary digits, and the short names of types.
 
 ghost use Rattle.std.specs.Prelude.{◌≡◌, ℕ, ◌+◌, ◌-◌, ◌*◌, ◌^◌, ◌<◌, ◌≤◌, ◌↔◌, IsTrue, SomeIff, length, slice_index};
 ghost use Rattle.p3_util_kernels.specs.Powers.{HasLog2, HasLog3, IsPowerOfThree};
@@ -56,8 +55,8 @@ const POWERS_OF_THREE: [usize; 41] = [
     12_157_665_459_056_928_801,
 ];
 
-/// Entry `t` is the exponent of the greatest power of three below `2^(t + 1)`. So if bit `t` is the
-/// highest set bit of a power of three, entry `t` is the exponent of that power.
+/// Entry `t` is the exponent of the greatest power of three below `2^(t + 1)`. So if bit `t` is the highest set bit of
+/// a power of three, entry `t` is the exponent of that power.
 const EXPONENTS_OF_THREE: [u8; 64] = [
     0, 1, 1, 2, 3, 3, 4, 5, 5, 6, 6, 7, 8, 8, 9, 10, 10, 11, 11, 12, 13, 13, 14, 15, 15, 16, 17,
     17, 18, 18, 19, 20, 20, 21, 22, 22, 23, 23, 24, 25, 25, 26, 27, 27, 28, 29, 29, 30, 30, 31, 32,
@@ -168,8 +167,8 @@ pub const fn checked_log_size_sum(a: usize, b: usize) -> Option<(usize, usize)>
     }
 }
 
-/// The logarithm to base 2 of `n`, which must be a power of two. This call does not check that, and
-/// std's `is_power_of_two` does.
+/// The logarithm to base 2 of `n`, which must be a power of two. This call does not check that, and std's
+/// `is_power_of_two` does.
 #[inline]
 pub const fn log2_strict_usize(n: usize) -> usize
     requires { HasLog2 n }
@@ -180,8 +179,8 @@ pub const fn log2_strict_usize(n: usize) -> usize
     n.trailing_zeros() as usize
 }
 
-/// The logarithm to base 3 of `n`, which must be a power of three. This call does not check that,
-/// and [`is_power_of_three`] does.
+/// The logarithm to base 3 of `n`, which must be a power of three. This call does not check that, and
+/// [`is_power_of_three`] does.
 #[inline]
 pub const fn log3_strict_usize(n: usize) -> usize
     requires { HasLog3 n }
@@ -201,8 +200,8 @@ pub const fn is_power_of_three(n: usize) -> bool
     n != 0 && powers_of_three()[exponent_of_three(n.ilog2() as usize)] == n
 }
 
-/// The table of all powers of three that fit in a `usize`. The highest set bits of any two of them
-/// are at different positions.
+/// The table of all powers of three that fit in a `usize`. The highest set bits of any two of them are at different
+/// positions.
 #[tactic(auto, using(crate::proofs::BitsLemmas::Tables::powers))]
 #[inline]
 const fn powers_of_three() -> &'static [usize; 41]
@@ -247,8 +246,8 @@ pub const fn indices_arr<const N: usize>() -> [usize; N]
 
 /// Marks a branch that is seldom taken, and does nothing.
 ///
-/// The original has an empty line of assembly here, so that the compiler keeps the branch. This
-/// body is empty, so the compiler may turn the branch into a conditional move.
+/// The original has an empty line of assembly here, so that the compiler keeps the branch. This body is empty, so the
+/// compiler may turn the branch into a conditional move.
 ///
 /// ```
 /// let bits = |n: usize| if n == 0 { p3_util_proved::branch_hint(); 1 } else { n.ilog2() + 1 };

@@ -1,5 +1,4 @@
-//! Statements about the definitions that contracts use. Each statement is the contract of a
-//! function that does nothing.
+//! Statements about the definitions that contracts use. Each statement is the contract of a function that does nothing.
 
 ghost use Rattle.std.specs.Prelude.{ℕ};
 ghost use Rattle.p3_util_kernels.specs.Least.{LeastPuts, LeastReversal, LeastSquare, Palindromes, PutsChange, ReversalDiffers, SquareDiffers, SwapsChange};
@@ -20,8 +19,7 @@ pub fn least_runs()
 
 /// The least number of steps in which a list whose items all differ can be rearranged.
 ///
-/// A step is one exchange of the items at any two places, or one put at any place. Steps are made
-/// one after the other.
+/// A step is one exchange of the items at any two places, or one put at any place. Steps are made one after the other.
 ///
 /// - m exchanges change at most 2m places, and m puts change at most m places.
 /// - Of the numbers of k bits, 2^ceil(k/2) are their own reverse.

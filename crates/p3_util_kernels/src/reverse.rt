@@ -1,18 +1,15 @@
-//! Bit reversal of lists: item `i` moves to the index whose binary digits are those of `i` in
-//! reversed order.
+//! Bit reversal of lists: item `i` moves to the index whose binary digits are those of `i` in reversed order.
 //!
-//! The rows of a list can be reordered in the same way, by the index of each row. The items within
-//! a row then keep their order.
+//! The rows of a list can be reordered in the same way, by the index of each row. The items within a row then keep
+//! their order.
 //!
-//! There are two paths. The *short path* swaps each pair of items, or of rows, whose indices are
-//! each other's reverse. The *long path* makes three passes over chunks and squares, and more swaps.
-//! Rows are always reversed by the short path. A list of single items takes the short path for up
-//! to 8192 items, and the long path for more. A call on a slice is the call whose name ends in
-//! `_on`, over a counter that starts at 0.
+//! There are two paths. The *short path* swaps each pair of items, or of rows, whose indices are each other's reverse.
+//! The *long path* makes three passes over chunks and squares, and more swaps. Rows are always reversed by the short
+//! path. A list of single items takes the short path for up to 8192 items, and the long path for more. A call on a
+//! slice is the call whose name ends in `_on`, over a counter that starts at 0.
 //!
-//! It is proved that each call leaves the list in bit-reversed order (`IsReversal`,
-//! `IsRowReversal`). For the calls that are given a counter, the exact number of swaps is proved
-//! too. The order of the swaps is only tested.
+//! It is proved that each call leaves the list in bit-reversed order (`IsReversal`, `IsRowReversal`). For the calls
+//! that are given a counter, the exact number of swaps is proved too. The order of the swaps is only tested.
 
 ghost use Rattle.std.specs.Prelude.{◌≡◌, ℕ, ◌+◌, ◌*◌, ◌/◌, ◌^◌, ◌↔◌, ◌<◌, ◌≤◌, IsTrue, length, slice_get};
 ghost use Rattle.p3_util_kernels.specs.Reversal.{FitsRows, IsReversal, IsReversible, IsRowReversal, IsZeroOrPowerOfTwo};
@@ -34,11 +31,10 @@ use rows::swap_rows;
 /// A list of at most this many items takes the short path, and a longer one the long path.
 const SHORT_PATH_ITEMS: usize = 8192;
 
-/// Whether `len` items can be cut into rows of `row_width` items so that the number of rows is zero
-/// or a power of two.
+/// Whether `len` items can be cut into rows of `row_width` items so that the number of rows is zero or a power of two.
 ///
-/// With a `row_width` of 1 this says whether `len` is zero or a power of two. With a `row_width` of
-/// 0 it says whether `len` is zero.
+/// With a `row_width` of 1 this says whether `len` is zero or a power of two. With a `row_width` of 0 it says whether
+/// `len` is zero.
 #[inline]
 #[must_use]
 pub const fn fits_rows(len: usize, row_width: usize) -> bool
@@ -51,11 +47,11 @@ pub const fn fits_rows(len: usize, row_width: usize) -> bool
     len == 0 || (len % row_width == 0 && (len / row_width).is_power_of_two())
 }
 
-/// Reverses the order of `vals` by index bits, and does not check the length: it must be zero or a
-/// power of two, which `fits_rows(vals.len(), 1)` or std's `is_power_of_two` checks.
+/// Reverses the order of `vals` by index bits, and does not check the length: it must be zero or a power of two, which
+/// `fits_rows(vals.len(), 1)` or std's `is_power_of_two` checks.
 ///
-/// With 2^k items, index `i` gets the item from the index that has the k bits of `i` in reversed
-/// order. A second call restores the original order. No item is cloned or dropped.
+/// With 2^k items, index `i` gets the item from the index that has the k bits of `i` in reversed order. A second call
+/// restores the original order. No item is cloned or dropped.
 #[tactic(auto, using(crate::proofs::ReverseLemmas::Reversal::reversed_place))]
 pub fn reverse_slice_index_bits<F>(vals: &mut [F])
     requires { IsReversible (length vals.old) }
@@ -67,12 +63,12 @@ pub fn reverse_slice_index_bits<F>(vals: &mut [F])
     on_fresh_counter(&mut SlicePlaces::new(vals));
 }
 
-/// Reverses the order of the rows of `vals` by index bits, and does not check the length: the rows
-/// must have `row_width` items each, and their number must be zero or a power of two, which
-/// `fits_rows(vals.len(), row_width)` checks.
+/// Reverses the order of the rows of `vals` by index bits, and does not check the length: the rows must have
+/// `row_width` items each, and their number must be zero or a power of two, which `fits_rows(vals.len(), row_width)`
+/// checks.
 ///
-/// With 2^k rows, the row at index `r` comes from the index that has the k bits of `r` in reversed
-/// order. A second call restores the original order. No item is cloned or dropped.
+/// With 2^k rows, the row at index `r` comes from the index that has the k bits of `r` in reversed order. A second call
+/// restores the original order. No item is cloned or dropped.
 pub fn reverse_slice_row_index_bits<F>(vals: &mut [F], row_width: usize)
     requires { FitsRows (length vals.old) row_width }
     ensures order { IsRowReversal row_width vals.old vals.new }
@@ -83,11 +79,11 @@ pub fn reverse_slice_row_index_bits<F>(vals: &mut [F], row_width: usize)
     rows_on_fresh_counter(&mut SlicePlaces::new(vals), row_width);
 }
 
-/// Reverses `m` by index bits, as [`reverse_slice_index_bits`] does: by the short path up to 8192
-/// items, and by the long one if there are more.
+/// Reverses `m` by index bits, as [`reverse_slice_index_bits`] does: by the short path up to 8192 items, and by the
+/// long one if there are more.
 ///
-/// A list of n items takes at most 3n/2 swaps. The length must be zero or a power of two, which
-/// `fits_rows(m.len(), 1)` checks.
+/// A list of n items takes at most 3n/2 swaps. The length must be zero or a power of two, which `fits_rows(m.len(), 1)`
+/// checks.
 pub fn reverse_index_bits_on<S: Places>(m: &mut Swaps<S>)
     requires { IsReversible (length (S.items m.old.holder)) }
     ensures order { IsReversal (S.items m.old.holder) (S.items m.new.holder) }
@@ -108,8 +104,8 @@ pub fn reverse_index_bits_on<S: Places>(m: &mut Swaps<S>)
 
 /// Reverses `m` by index bits, as [`reverse_slice_index_bits`] does.
 ///
-/// Each pair of items whose indices are each other's reverse is swapped once. The length must be
-/// zero or a power of two, which `fits_rows(m.len(), 1)` checks.
+/// Each pair of items whose indices are each other's reverse is swapped once. The length must be zero or a power of
+/// two, which `fits_rows(m.len(), 1)` checks.
 pub fn reverse_index_bits_short<S: Places>(m: &mut Swaps<S>)
     requires { IsReversible (length (S.items m.old.holder)) }
     ensures order { IsReversal (S.items m.old.holder) (S.items m.new.holder) }
@@ -124,11 +120,10 @@ pub fn reverse_index_bits_short<S: Places>(m: &mut Swaps<S>)
     reverse_row_index_bits_on(m, 1);
 }
 
-/// Reverses `m` by index bits, as [`reverse_slice_index_bits`] does, in three passes over chunks and
-/// squares.
+/// Reverses `m` by index bits, as [`reverse_slice_index_bits`] does, in three passes over chunks and squares.
 ///
-/// A list of n items takes at most 3n/2 swaps, while [`reverse_index_bits_short`] takes at most n/2.
-/// The length must be at least 4, and a power of two, which std's `is_power_of_two` checks.
+/// A list of n items takes at most 3n/2 swaps, while [`reverse_index_bits_short`] takes at most n/2. The length must be
+/// at least 4, and a power of two, which std's `is_power_of_two` checks.
 pub fn reverse_index_bits_long<S: Places>(m: &mut Swaps<S>)
     requires fits { IsReversible (length (S.items m.old.holder)) }
     requires not_short { 4 ≤ length (S.items m.old.holder) }
@@ -150,9 +145,8 @@ pub fn reverse_index_bits_long<S: Places>(m: &mut Swaps<S>)
 
 /// Reverses the order of the rows of `m` by index bits.
 ///
-/// Each row has `row_width` items. With 2^k rows, the row at index `r` comes from the index that
-/// has the k bits of `r` in reversed order. The number of rows must be zero or a power of two,
-/// which [`fits_rows`] checks.
+/// Each row has `row_width` items. With 2^k rows, the row at index `r` comes from the index that has the k bits of `r`
+/// in reversed order. The number of rows must be zero or a power of two, which [`fits_rows`] checks.
 pub fn reverse_row_index_bits_on<S: Places>(m: &mut Swaps<S>, row_width: usize)
     requires { FitsRows (length (S.items m.old.holder)) row_width }
     ensures order { IsRowReversal row_width (S.items m.old.holder) (S.items m.new.holder) }
@@ -174,10 +168,9 @@ pub fn reverse_row_index_bits_on<S: Places>(m: &mut Swaps<S>, row_width: usize)
 
 /// Reverses the order of chunks by index bits.
 ///
-/// There are `2^h` chunks of `2^c` items, where h is `lb_num_chunks` and c is `lb_chunk_size`.
-/// Place `i` gets the item from place `rev(h, i / 2^c) * 2^c + i mod 2^c`, where `rev(h, x)` has
-/// the h bits of x in reversed order. A list of n items takes at most n/2 swaps. The length must be
-/// `2^(h + c)`. To check the length, compare it with the power that
+/// There are `2^h` chunks of `2^c` items, where h is `lb_num_chunks` and c is `lb_chunk_size`. Place `i` gets the item
+/// from place `rev(h, i / 2^c) * 2^c + i mod 2^c`, where `rev(h, x)` has the h bits of x in reversed order. A list of n
+/// items takes at most n/2 swaps. The length must be `2^(h + c)`. To check the length, compare it with the power that
 /// [`checked_log_size_sum`](crate::bits::checked_log_size_sum) returns for the two exponents.
 pub fn reverse_chunks_on<S: Places>(m: &mut Swaps<S>, lb_num_chunks: usize, lb_chunk_size: usize)
     requires { length (S.items m.old.holder) ≡ 2 ^ (lb_num_chunks + lb_chunk_size) }

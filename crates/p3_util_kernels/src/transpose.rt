@@ -1,26 +1,25 @@
 //! Transposes of matrices that are stored as flat lists, row after row.
 //!
-//! A *region* is a rectangle in a matrix: the items that lie in some neighbouring rows and in some
-//! neighbouring columns. To *put* a region is to put each of its items into the cell that it has in
-//! the transpose. A *tile* is a region of 16 by 16 items.
+//! A *region* is a rectangle in a matrix: the items that lie in some neighbouring rows and in some neighbouring
+//! columns. To *put* a region is to put each of its items into the cell that it has in the transpose. A *tile* is a
+//! region of 16 by 16 items.
 //!
-//! The transpose of a whole matrix takes one of three paths. A matrix of at most 255 items is
-//! copied plainly, column after column. A matrix of at most 1,048,576 items is put as one region,
-//! tile after tile, and what lies beside its tiles is copied plainly. A larger matrix is split into
-//! regions first. The calls whose names have `region` put a region without a split, and those whose
-//! names have `split` split it first.
+//! The transpose of a whole matrix takes one of three paths. A matrix of at most 255 items is copied plainly, column
+//! after column. A matrix of at most 1,048,576 items is put as one region, tile after tile, and what lies beside its
+//! tiles is copied plainly. A larger matrix is split into regions first. The calls whose names have `region` put a
+//! region without a split, and those whose names have `split` split it first.
 //!
-//! It is proved that each call puts every item where it belongs (`IsTranspose`,
-//! `IsRegionTransposed`). For the calls that count, it is also proved that each item takes exactly
-//! one write. The order of the writes is only tested, and so is the path on which it depends.
+//! It is proved that each call puts every item where it belongs (`IsTranspose`, `IsRegionTransposed`). For the calls
+//! that count, it is also proved that each item takes exactly one write. The order of the writes is only tested, and so
+//! is the path on which it depends.
 
 ghost use Rattle.std.specs.Prelude.{◌≡◌, ℕ, ◌*◌, ◌↔◌, IsTrue, length};
 ghost use Rattle.p3_util_kernels.specs.Steps.{counted};
 ghost use Rattle.p3_util_kernels.specs.Transpose.{IsTranspose};
 
-// `region` defines matrices and regions, and puts one region. `tile` puts one tile, by the blocks of
-// `butterfly`. `split` halves a region until its parts are small or narrow. `square` transposes a
-// square in place, for the long path of a bit reversal.
+// `region` defines matrices and regions, and puts one region. `tile` puts one tile, by the blocks of `butterfly`.
+// `split` halves a region until its parts are small or narrow. `square` transposes a square in place, for the long path
+// of a bit reversal.
 mod butterfly;
 mod region;
 #[doc(hidden)]
@@ -49,8 +48,7 @@ const ENOUGH_LEVELS: u32 = 64;
 
 /// Whether an input and an output of these lengths both have `width * height` items.
 ///
-/// If that product overflows, they do not. This tests the preconditions of [`transpose`] and
-/// [`transpose_on`].
+/// If that product overflows, they do not. This tests the preconditions of [`transpose`] and [`transpose_on`].
 #[inline]
 #[must_use]
 pub const fn fits_matrix(input_len: usize, output_len: usize, width: usize, height: usize) -> bool
@@ -62,12 +60,12 @@ pub const fn fits_matrix(input_len: usize, output_len: usize, width: usize, heig
     }
 }
 
-/// Transposes `input`, a matrix of `height` rows of `width` items, into `output`, and does not check
-/// the lengths: both must be `width * height`, which [`fits_matrix`] checks.
+/// Transposes `input`, a matrix of `height` rows of `width` items, into `output`, and does not check the lengths: both
+/// must be `width * height`, which [`fits_matrix`] checks.
 ///
-/// The item at `y * width + x` of `input` is put at `x * height + y` of `output`. If you transpose
-/// `output`, as a matrix of `width` rows of `height` items, you get `input` again. [`transpose_on`]
-/// writes the items in the same order.
+/// The item at `y * width + x` of `input` is put at `x * height + y` of `output`. If you transpose `output`, as a
+/// matrix of `width` rows of `height` items, you get `input` again. [`transpose_on`] writes the items in the same
+/// order.
 #[tactic(auto, using(crate::proofs::TransposeLemmas::Matrix::transpose_turned))]
 pub fn transpose<T: Copy>(input: &[T], output: &mut [T], width: usize, height: usize)
     requires input_fits { length input.now ≡ width * height }
@@ -83,8 +81,7 @@ pub fn transpose<T: Copy>(input: &[T], output: &mut [T], width: usize, height: u
     );
 }
 
-/// Transposes a source into any cells. The caller makes the holder, so it knows what is in the slice
-/// afterwards.
+/// Transposes a source into any cells. The caller makes the holder, so it knows what is in the slice afterwards.
 fn transpose_cells<R, C>(input: &R, cells: &mut C, width: usize, height: usize)
 where
     C: Cells,
@@ -98,16 +95,14 @@ where
     transpose_source_on(input, &mut out, width, height);
 }
 
-/// Writes the transpose of `input` to `out`, as [`transpose`] does, in exactly `width * height`
-/// writes.
+/// Writes the transpose of `input` to `out`, as [`transpose`] does, in exactly `width * height` writes.
 ///
 /// Both lengths must be `width * height`, which [`fits_matrix`] checks.
 ///
-/// A matrix of at most 255 items is written column after column. A matrix of 256 to 1,048,576 items
-/// is written as one region: first its tiles of 16 by 16 items, each in 16 blocks of 4 by 4, and
-/// then the columns to the right of the tiles, the rows below them and the corner. A larger matrix
-/// is split and written as [`transpose_split_on`] does it. The contract does not promise this order,
-/// but it is tested.
+/// A matrix of at most 255 items is written column after column. A matrix of 256 to 1,048,576 items is written as one
+/// region: first its tiles of 16 by 16 items, each in 16 blocks of 4 by 4, and then the columns to the right of the
+/// tiles, the rows below them and the corner. A larger matrix is split and written as [`transpose_split_on`] does it.
+/// The contract does not promise this order, but it is tested.
 pub fn transpose_on<C: Cells>(input: &[C::Item], out: &mut Writes<C>, width: usize, height: usize)
     requires input_fits { length input.now ≡ width * height }
     requires output_fits { length (C.items out.old.holder) ≡ width * height }

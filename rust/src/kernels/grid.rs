@@ -1,18 +1,16 @@
 // rust/erase writes this file from crates/p3_util_fast/src/grid.rt. Make changes there.
 //! Squares of a list, and the exchange of their items across the diagonal.
 //!
-//! A *grid* is a square with 2^k rows and columns. Its row `x` begins at a place of the list, and
-//! the row's other places follow this one. The rows lie in the list at equal distances, in
-//! bit-reversed order. So the place of row `x` and column `y` is `base + rev(x) * stride + y`, where
-//! `rev(x)` is `x` with its k binary digits in reversed order.
+//! A *grid* is a square with 2^k rows and columns. Its row `x` begins at a place of the list, and the row's other
+//! places follow this one. The rows lie in the list at equal distances, in bit-reversed order. So the place of row `x`
+//! and column `y` is `base + rev(x) * stride + y`, where `rev(x)` is `x` with its k binary digits in reversed order.
 //!
-//! The place of row `x` and column `y` is exchanged with the place of row `y` and column `x`, for
-//! all `x < y`. This reverses the list by index bits, as the module [`rows`](crate::kernels::rows) explains.
-//! If the list consists of runs of `width` items, such as rows, a place of the grid is the index of a
-//! run.
+//! The place of row `x` and column `y` is exchanged with the place of row `y` and column `x`, for all `x < y`. This
+//! reverses the list by index bits, as the module [`rows`](crate::kernels::rows) explains. If the list consists of runs of
+//! `width` items, such as rows, a place of the grid is the index of a run.
 //!
-//! The exchanges are made in the order of nested squares, down to *tiles* of 8 rows and columns. So
-//! the items of a tile, which lie in a few cache lines, are exchanged together.
+//! The exchanges are made in the order of nested squares, down to *tiles* of 8 rows and columns. So the items of a
+//! tile, which lie in a few cache lines, are exchanged together.
 
 use crate::kernels::bits::{pow2, reverse_bits_len};
 use crate::kernels::bulk::Tiled;
@@ -51,20 +49,19 @@ impl Grid {
         self.stride * pow2(self.digits - 3)
     }
 
-    /// The places of one column in the 8 rows of a tile. `first` is the place in the first of these
-    /// rows.
+    /// The places of one column in the 8 rows of a tile. `first` is the place in the first of these rows.
     #[inline(always)]
     fn tile_rows(self, first: usize) -> [usize; 8] {
-        // If 8 divides `x`, row `x + t` begins as far from row `x` as these distances say, one for each
-        // binary digit of `t` that is set.
+        // If 8 divides `x`, row `x + t` begins as far from row `x` as these distances say, one for each binary digit of
+        // `t` that is set.
         let four = self.row_distance(first);
         let (one, two) = (4 * four, 2 * four);
         let middle = first + four;
         [first, first + one, first + two, first + one + two, middle, middle + one, middle + two, middle + one + two]
     }
 
-    /// The rows of the tile at row `x` and column `y`, and those of its mirror image. Row `x` begins at
-    /// place `first`, and row `y` at place `start`.
+    /// The rows of the tile at row `x` and column `y`, and those of its mirror image. Row `x` begins at place `first`,
+    /// and row `y` at place `start`.
     #[inline(always)]
     fn tile_pair(self, x: usize, y: usize, first: usize, start: usize) -> ([usize; 8], [usize; 8]) {
         (self.tile_rows(first + y), self.tile_rows(start + x))
@@ -83,8 +80,8 @@ fn exchange_places<M: Tiled>(m: M, width: usize, i: usize, j: usize) -> M {
     m
 }
 
-/// Exchanges places of row `row` with their mirror images. These are the places in the columns of
-/// `region`, which are to the right of the diagonal.
+/// Exchanges places of row `row` with their mirror images. These are the places in the columns of `region`, which are
+/// to the right of the diagonal.
 #[inline(always)]
 fn exchange_row<M: Tiled>(m: M, grid: Grid, row: usize, region: Region) -> M {
     let first = grid.start(row);
@@ -124,8 +121,8 @@ fn exchange_leaf_tiles<M: Tiled>(m: M, grid: Grid, region: Region) -> M {
     m
 }
 
-/// Exchanges a region above the diagonal with its mirror image, without cutting the region: tile by
-/// tile if the region consists of tiles, and otherwise row after row.
+/// Exchanges a region above the diagonal with its mirror image, without cutting the region: tile by tile if the region
+/// consists of tiles, and otherwise row after row.
 #[inline(always)]
 fn exchange_leaf<M: Tiled>(m: M, grid: Grid, region: Region) -> M {
     let whole_rows = region.row_start % TILE == 0 && region.row_end % TILE == 0;
@@ -140,9 +137,9 @@ fn exchange_leaf<M: Tiled>(m: M, grid: Grid, region: Region) -> M {
     m
 }
 
-/// Exchanges a region above the diagonal with its mirror image. A region that is not a leaf is cut
-/// in half at its longer side. The calls nest at most as deep as the sides can be halved until
-/// neither is longer than `LEAF`. The proof that the calls end counts these levels.
+/// Exchanges a region above the diagonal with its mirror image. A region that is not a leaf is cut in half at its
+/// longer side. The calls nest at most as deep as the sides can be halved until neither is longer than `LEAF`. The
+/// proof that the calls end counts these levels.
 pub(crate) fn exchange_region<M: Tiled>(m: M, grid: Grid, region: Region) -> M {
     let (rows, cols) = (region.rows(), region.cols());
     if rows <= LEAF && cols <= LEAF {
@@ -158,16 +155,15 @@ pub(crate) fn exchange_region<M: Tiled>(m: M, grid: Grid, region: Region) -> M {
     }
 }
 
-/// Half of `size`, rounded up to whole tiles. The rest is not greater. So a side of at most
-/// `8 * 2^d` is cut into two sides of at most `8 * 2^(d - 1)`.
+/// Half of `size`, rounded up to whole tiles. The rest is not greater. So a side of at most `8 * 2^d` is cut into two
+/// sides of at most `8 * 2^(d - 1)`.
 #[inline(always)]
 fn upper_half(size: usize) -> usize {
     (size - 1) / (2 * TILE) * TILE + TILE
 }
 
-/// Exchanges the items above the diagonal with their mirror images in a smaller square inside
-/// `grid`: the one with the `size` rows and the `size` columns from `start` on. This is done row
-/// after row.
+/// Exchanges the items above the diagonal with their mirror images in a smaller square inside `grid`: the one with the
+/// `size` rows and the `size` columns from `start` on. This is done row after row.
 #[inline(always)]
 fn exchange_on_diagonal<M: Tiled>(m: M, grid: Grid, start: usize, size: usize) -> M {
     let end = start + size;
@@ -188,8 +184,8 @@ fn exchange_diagonal_tile<M: Tiled>(m: M, grid: Grid, start: usize) -> M {
     m
 }
 
-/// Does the same as [`exchange_on_diagonal`], by quadrants. The calls nest at most as deep as `size` can
-/// be halved until it is at most 8. The proof that the calls end counts these levels.
+/// Does the same as [`exchange_on_diagonal`], by quadrants. The calls nest at most as deep as `size` can be halved
+/// until it is at most 8. The proof that the calls end counts these levels.
 pub(crate) fn exchange_quadrants<M: Tiled>(m: M, grid: Grid, start: usize, size: usize) -> M {
     if grid.width == 1 && size == TILE && start % TILE == 0 {
         return exchange_diagonal_tile(m, grid, start);
@@ -205,17 +201,16 @@ pub(crate) fn exchange_quadrants<M: Tiled>(m: M, grid: Grid, start: usize, size:
     exchange_quadrants(m, grid, start + half, size - half)
 }
 
-/// Exchanges all items of a grid that are above the diagonal with their mirror images, by quadrants
-/// or row by row. Row by row, the compiler unrolls the exchanges if it knows that the grid has two or
-/// four rows.
+/// Exchanges all items of a grid that are above the diagonal with their mirror images, by quadrants or row by row. Row
+/// by row, the compiler unrolls the exchanges if it knows that the grid has two or four rows.
 #[inline(always)]
 pub(crate) fn exchange_square<M: Tiled>(m: M, grid: Grid, row_by_row: bool) -> M {
     let size = pow2(grid.digits);
     if row_by_row { exchange_on_diagonal(m, grid, 0, size) } else { exchange_quadrants(m, grid, 0, size) }
 }
 
-/// Reverses `x`, which has at most `digits` binary digits. Up to six digits are looked up in the
-/// table, and more are reversed by halves.
+/// Reverses `x`, which has at most `digits` binary digits. Up to six digits are looked up in the table, and more are
+/// reversed by halves.
 #[inline(always)]
 pub(crate) fn reverse_digits(x: usize, digits: usize) -> usize {
     if digits <= 6 {

@@ -1,6 +1,5 @@
 // rust/erase writes this file from crates/p3_util/src/linear_map.rt. Make changes there.
-//! A map that keeps its pairs in the order of insertion. It finds a key by comparing it with each
-//! stored key.
+//! A map that keeps its pairs in the order of insertion. It finds a key by comparing it with each stored key.
 
 mod iter;
 
@@ -12,8 +11,8 @@ use core::ops::Index;
 use core::slice;
 pub use iter::{Iter, Keys, Values};
 
-/// A map in insertion order, for few keys. A lookup compares one stored key after the other with the
-/// given one, as in `stored == given`.
+/// A map in insertion order, for few keys. A lookup compares one stored key after the other with the given one, as in
+/// `stored == given`.
 #[derive(Debug)]
 pub struct LinearMap<K: Eq, V> {
     pairs: Vec<(K, V)>,
@@ -66,8 +65,8 @@ impl<K: Eq, V> LinearMap<K, V> {
         Some(&self.pairs[place].1)
     }
 
-    /// A mutable reference to the value of the pair whose key equals `k`, or `None` if there is no
-    /// such pair. A write changes only that value.
+    /// A mutable reference to the value of the pair whose key equals `k`, or `None` if there is no such pair. A write
+    /// changes only that value.
     pub fn get_mut(&mut self, k: &K) -> Option<&mut V> {
         let place = self.place_of(k)?;
         Some(&mut self.pairs[place].1)
@@ -77,9 +76,9 @@ impl<K: Eq, V> LinearMap<K, V> {
 impl<K: Eq, V> LinearMap<K, V> {
     /// Gives `k` the value `v`.
     ///
-    /// A known key keeps its place and its stored spelling: its old value is returned, and `k` is
-    /// dropped. A new pair goes to the end. Only a new pair can need memory. If there is none,
-    /// `NoRoom` returns the pair, and the map is unchanged.
+    /// A known key keeps its place and its stored spelling: its old value is returned, and `k` is dropped. A new pair
+    /// goes to the end. Only a new pair can need memory. If there is none, `NoRoom` returns the pair, and the map is
+    /// unchanged.
     #[inline(always)]
     pub fn insert(&mut self, k: K, v: V) -> Result<Option<V>, NoRoom<(K, V)>> {
         if let Some(place) = self.place_of(&k) {
@@ -94,9 +93,9 @@ impl<K: Eq, V> LinearMap<K, V> {
 
     /// A mutable reference to the value of `k`.
     ///
-    /// For a new key, the call first makes room, and then adds the value that `f` returns at the
-    /// end. For a known key `f` is not called. Only a new key can need memory. If there is none,
-    /// `NoRoom` returns the key, and the map is unchanged.
+    /// For a new key, the call first makes room, and then adds the value that `f` returns at the end. For a known key
+    /// `f` is not called. Only a new key can need memory. If there is none, `NoRoom` returns the key, and the map is
+    /// unchanged.
     pub fn get_or_insert_with<F: FnOnce() -> V>(&mut self, k: K, f: F) -> Result<&mut V, NoRoom<K>> {
         if let Some(place) = self.place_of(&k) {
             return Ok(&mut self.pairs[place].1);
@@ -111,8 +110,7 @@ impl<K: Eq, V> LinearMap<K, V> {
 }
 
 impl<K: Eq, V> LinearMap<K, V> {
-    /// The map of the pairs of `it`, inserted in order. If memory runs out, the pairs that were
-    /// taken are dropped.
+    /// The map of the pairs of `it`, inserted in order. If memory runs out, the pairs that were taken are dropped.
     pub fn try_from_iter<I: IntoIterator<Item = (K, V)>>(alloc: Global, it: I) -> Result<Self, AllocError> {
         let mut map = LinearMap::new(alloc);
         for (k, v) in it {

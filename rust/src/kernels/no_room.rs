@@ -1,8 +1,7 @@
 // rust/erase writes this file from crates/p3_util/src/no_room.rt. Make changes there.
 //! The error of a call that needs memory when there is none.
 
-/// The error of a call for which there was no memory. It returns what the call was given,
-/// unchanged.
+/// The error of a call for which there was no memory. It returns what the call was given, unchanged.
 #[derive(Clone, Debug)]
 pub struct NoRoom<G> {
     /// What the call was given.

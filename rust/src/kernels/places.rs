@@ -17,13 +17,13 @@
 //! - A *kernel* is a private generic function that does the work of a call. It is given a counter
 //!   and makes single swaps or writes.
 //!
-//! The traits of holders have only a length and one step, or one read. A kernel is generic over its
-//! holder, so it changes the list by steps alone, and its contract gives the exact number of steps
-//! that the holder makes. The kernel can neither leave out a step nor make an extra one.
+//! The traits of holders have only a length and one step, or one read. A kernel is generic over its holder, so it
+//! changes the list by steps alone, and its contract gives the exact number of steps that the holder makes. The kernel
+//! can neither leave out a step nor make an extra one.
 //!
-//! A reference to a holder is a holder too. A call whose name ends in `_on`, `_short` or `_long` is
-//! given a counter and adds to its count. A call on a slice is the `_on` call over a counter that
-//! starts at 0, around a holder of that slice.
+//! A reference to a holder is a holder too. A call whose name ends in `_on`, `_short` or `_long` is given a counter and
+//! adds to its count. A call on a slice is the `_on` call over a counter that starts at 0, around a holder of that
+//! slice.
 
 #[cfg(target_pointer_width = "32")]
 use crate::width::Index as usize;
@@ -35,13 +35,12 @@ mod slices;
 pub use counters::{Swaps, Writes};
 pub use slices::{SliceCells, SlicePlaces, SliceSource};
 
-/// A list whose items can only be exchanged: they can neither be read nor be moved in any other
-/// way.
+/// A list whose items can only be exchanged: they can neither be read nor be moved in any other way.
 ///
-/// In a contract, `items` is the list of the holder's items. `same_holder n a b` says that b is the
-/// holder a after n exchanges. What that means depends on the holder. If the holder counts, the
-/// count of b is n more than the count of a. If it does not count, it ignores n. If it borrows its
-/// items, b borrows the same slice as a, so a change to the holder is a change to that slice.
+/// In a contract, `items` is the list of the holder's items. `same_holder n a b` says that b is the holder a after n
+/// exchanges. What that means depends on the holder. If the holder counts, the count of b is n more than the count of
+/// a. If it does not count, it ignores n. If it borrows its items, b borrows the same slice as a, so a change to the
+/// holder is a change to that slice.
 ///
 /// A holder of your own defines `len` and `exchange`.
 pub trait Places {
@@ -57,9 +56,8 @@ pub trait Places {
 
 /// A list into which items can be put, and from which none can be read.
 ///
-/// In a contract, `items` is the list of the holder's items. `same_holder n a b` says that b is the
-/// holder a after n puts. The rest is the same as for [`Places`]. A holder of your own defines `len`
-/// and `put`.
+/// In a contract, `items` is the list of the holder's items. `same_holder n a b` says that b is the holder a after n
+/// puts. The rest is the same as for [`Places`]. A holder of your own defines `len` and `put`.
 pub trait Cells {
     /// The type of the items.
     type Item: Copy;
@@ -73,8 +71,7 @@ pub trait Cells {
 
 /// A list whose items can be read but not changed.
 ///
-/// In a contract, `items` is the list of the source's items. A source of your own defines `len` and
-/// `at`.
+/// In a contract, `items` is the list of the source's items. A source of your own defines `len` and `at`.
 pub trait Source {
     /// The type of the items.
     type Item: Copy;
@@ -86,7 +83,7 @@ pub trait Source {
     fn at(&self, i: usize) -> Self::Item;
 }
 
-/// Does nothing at run time. A function calls it with the length of a list, so that its proof knows
-/// that this length fits in a `usize`.
+/// Does nothing at run time. A function calls it with the length of a list, so that its proof knows that this length
+/// fits in a `usize`.
 #[inline(always)]
 pub(crate) fn len_fits(_len: usize) {}

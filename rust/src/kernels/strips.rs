@@ -5,8 +5,8 @@
 //!   from top to bottom.
 //! - A *square* is a block of 4 by 4 or of 8 by 8 items of a strip.
 //!
-//! [`Strips`] says how many rows a strip has, and whether it is put column after column or by
-//! squares. That choice only changes the order of the puts.
+//! [`Strips`] says how many rows a strip has, and whether it is put column after column or by squares. That choice only
+//! changes the order of the puts.
 
 use crate::kernels::bulk::{Ahead, Blocked};
 use crate::kernels::transpose::{Matrix, Region};
@@ -17,8 +17,7 @@ use crate::width::Index as usize;
 /// A matrix of fewer items is put column after column.
 pub(crate) const TINY_MATRIX: usize = 256;
 
-/// If the width of a matrix is a multiple of this, its strips are low. Parts of a transpose begin at
-/// multiples of it.
+/// If the width of a matrix is a multiple of this, its strips are low. Parts of a transpose begin at multiples of it.
 pub(crate) const UNIT: usize = 16;
 
 /// The greatest number of rows of a high strip.
@@ -30,8 +29,8 @@ const LOW_ROWS: usize = 24;
 /// The greatest number of rows of a lowest strip.
 const LOWEST_ROWS: usize = 16;
 
-/// How a region is put in strips. Strips by squares have at most `ROWS` rows, and their squares have
-/// `SIDE` rows and columns. If `SIDE` is 1, these strips too are put column after column.
+/// How a region is put in strips. Strips by squares have at most `ROWS` rows, and their squares have `SIDE` rows and
+/// columns. If `SIDE` is 1, these strips too are put column after column.
 #[derive(Clone, Copy)]
 pub(crate) enum Strips<const SIDE: usize, const ROWS: usize> {
     /// Low strips, of at most 24 rows, column after column.
@@ -59,8 +58,8 @@ impl<const SIDE: usize, const ROWS: usize> PutRegion for Strips<SIDE, ROWS> {
     }
 }
 
-/// Puts a strip by squares: `SIDE` columns at a time, and in these one square after another. Then
-/// follow the columns to the right of all squares, and then the rows below them, column after column.
+/// Puts a strip by squares: `SIDE` columns at a time, and in these one square after another. Then follow the columns to
+/// the right of all squares, and then the rows below them, column after column.
 #[derive(Clone, Copy)]
 struct Squares<const SIDE: usize>;
 

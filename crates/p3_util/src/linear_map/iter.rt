@@ -1,5 +1,5 @@
-//! The iterators that lend the pairs, the keys or the values of a map, in its order. A contract
-//! sees each of them as the list of the items that are left.
+//! The iterators that lend the pairs, the keys or the values of a map, in its order. A contract sees each of them as
+//! the list of the items that are left.
 ghost use Rattle.std.specs.Prelude.{◌≡◌, ⊤, List, Some, length, IfSome};
 ghost use Rattle.std.specs.Iterator.{item_count, at_most, UpTo};
 ghost use Rattle.std.specs.Iterator.SizeHint.{IsWithinCount};

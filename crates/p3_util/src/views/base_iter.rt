@@ -9,8 +9,8 @@ ghost use Rattle.std.specs.Slice.Iter.{iter_rest};
 use std::marker::Model;
 use std::slice::Iter;
 
-/// An iterator over references to the items of a view, in order. A contract sees it as the list of
-/// the items that are left.
+/// An iterator over references to the items of a view, in order. A contract sees it as the list of the items that are
+/// left.
 #[derive(Drop)]
 pub struct BaseIter<'a, Base> {
     rest: Iter<'a, Base>,

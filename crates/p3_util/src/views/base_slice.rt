@@ -140,8 +140,8 @@ impl<'a, Base: Copy, const N: usize> Source for BaseSlice<'a, Base, N> {
     }
 
     fn at(&self, i: usize) -> Base {
-        // The checker knows that a slice fits in memory if a variable holds it, but not if it is a
-        // field behind a `Model`.
+        // The checker knows that a slice fits in memory if a variable holds it, but not if it is a field behind a
+        // `Model`.
         let items = self.items;
         items[i]
     }

@@ -15,20 +15,20 @@ use std::ops::Index;
 
 /// The rows behind `S`, viewed as the list of their items, row after row.
 ///
-/// All changes are made in the rows themselves. A contract sees the list as `S.items` of `rows`.
-/// For a `&mut` to arrays this is `flat` of the rows, as long as a `usize` can count their items,
-/// which holds for each view that [`as_base_slice_mut`] returns.
+/// All changes are made in the rows themselves. A contract sees the list as `S.items` of `rows`. For a `&mut` to arrays
+/// this is `flat` of the rows, as long as a `usize` can count their items, which holds for each view that
+/// [`as_base_slice_mut`] returns.
 #[derive(Drop)]
 pub struct Flattened<S> {
     rows: S,
 }
 
-/// A mutable slice of arrays of `N` items, viewed as the list of their items, array after array.
-/// For `N` = 0 it is empty.
+/// A mutable slice of arrays of `N` items, viewed as the list of their items, array after array. For `N` = 0 it is
+/// empty.
 pub type BaseSliceMut<'a, Base, const N: usize> = Flattened<&'a mut [[Base; N]]>;
 
-/// Views the arrays in `buf` as the list of their items, array after array, to exchange or write
-/// them. Nothing is copied.
+/// Views the arrays in `buf` as the list of their items, array after array, to exchange or write them. Nothing is
+/// copied.
 ///
 /// The number of items must fit in a `usize`, which [`flat_len`](super::flat_len) checks.
 pub fn as_base_slice_mut<Base, const N: usize>(buf: &mut [[Base; N]]) -> BaseSliceMut<'_, Base, N>
@@ -69,8 +69,8 @@ impl<S: Rows> Flattened<S> {
 
     /// A mutable reference to item `i`, or `None` if `i` is out of bounds.
     ///
-    /// When the reference ends, the same rows have the value that was last behind it as item `i`,
-    /// and every other item is unchanged.
+    /// When the reference ends, the same rows have the value that was last behind it as item `i`, and every other item
+    /// is unchanged.
     pub fn get_mut(&mut self, i: usize) -> Option<&mut S::Item>
         ensures* writes_back { sem 𝓛 (lends_item (the_row S.row) S.Item.row
             (λ v. S.items v.rows) (λ a b. S.same_rows a.rows b.rows) self.entry i result) }

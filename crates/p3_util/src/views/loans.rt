@@ -1,8 +1,7 @@
 //! Mutable references to one item of the rows, and what the rows become when such a reference ends.
 //!
-//! The checker follows neither a loan from an array to one of its items nor a loan of a loan. So
-//! two functions here are proved by hand, and so is `item_mut`, which lends an item from behind a
-//! view.
+//! The checker follows neither a loan from an array to one of its items nor a loan of a loan. So two functions here are
+//! proved by hand, and so is `item_mut`, which lends an item from behind a view.
 
 ghost use Rattle.std.specs.Prelude.{◌≡◌, ◌<◌, [], length, slice_get, slice_index_or};
 ghost use Rattle.std.specs.Borrow.{sem};

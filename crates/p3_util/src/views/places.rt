@@ -28,9 +28,8 @@ pub(super) fn width_of<T, const N: usize>(row: &[T; N]) -> usize
     row.len()
 }
 
-/// Shows the checker that item `i` of all rows is item `i % N` of row `i / N`. It knows that a row
-/// has `N` items only once the code names that row, which the loop does. Only a `prove!` calls
-/// this, and the compiler removes it.
+/// Shows the checker that item `i` of all rows is item `i % N` of row `i / N`. It knows that a row has `N` items only
+/// once the code names that row, which the loop does. Only a `prove!` calls this, and the compiler removes it.
 #[inline(always)]
 pub(super) fn each_in_its_row<T, const N: usize>(rows: &[[T; N]]) -> bool
     ensures yes { IsTrue result }

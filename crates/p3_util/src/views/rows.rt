@@ -12,9 +12,8 @@ use std::mem;
 
 /// A reference to rows of equal length, whose items can be exchanged or written.
 ///
-/// A contract sees it as the list of the items, row after row, if a `usize` can count them.
-/// `same_rows a b` says that b is a after some steps: it is the same reference, with the same
-/// number of items behind it.
+/// A contract sees it as the list of the items, row after row, if a `usize` can count them. `same_rows a b` says that b
+/// is a after some steps: it is the same reference, with the same number of items behind it.
 pub trait Rows {
     ghost use Rattle.p3_util.specs.ViewLends.{lends_item};
 

@@ -11,15 +11,13 @@ use std::alloc::Global;
 use std::vec::IntoIter;
 use std::{array, mem};
 
-/// Moves the items of the arrays in `vec` to one vector, array after array. Each item is moved
-/// once.
+/// Moves the items of the arrays in `vec` to one vector, array after array. Each item is moved once.
 ///
 /// The number of items must fit in a `usize`, which [`flat_len`](super::flat_len) checks.
 ///
 /// # Errors
 ///
-/// `vec` unchanged, if there is no memory for the items. If there are no items, no memory is
-/// needed.
+/// `vec` unchanged, if there is no memory for the items. If there are no items, no memory is needed.
 pub fn flatten_to_base<Base: Default + Drop, const N: usize>(
     alloc: Global,
     mut vec: Vec<[Base; N]>,
@@ -64,8 +62,7 @@ fn push_row<T: Default + Drop, const N: usize>(items: &mut Vec<T>, row: &mut [T;
 ///
 /// # Errors
 ///
-/// `vec` unchanged, if there is no memory for the arrays. If there are no items, no memory is
-/// needed.
+/// `vec` unchanged, if there is no memory for the arrays. If there are no items, no memory is needed.
 pub fn reconstitute_from_base<Base: Default + Drop, const N: usize>(
     alloc: Global,
     vec: Vec<Base>,

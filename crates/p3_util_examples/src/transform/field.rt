@@ -3,8 +3,7 @@
 ghost use Rattle.std.specs.Prelude.{◌≡◌, ℕ, ◌+◌, ◌-◌, ◌*◌, ◌%◌, ◌^◌, ◌<◌, ◌≤◌, slice_index};
 ghost use Rattle.p3_util_examples.specs.Stages.{IsRoot};
 
-/// The modulus, the prime 15 * 2^27 + 1. The functions in this file take and return numbers below
-/// it.
+/// The modulus, the prime 15 * 2^27 + 1. The functions in this file take and return numbers below it.
 pub const PRIME: u32 = 2_013_265_921;
 
 /// The greatest `k` for which there is a root of order `2^k`.
@@ -13,8 +12,7 @@ pub const MOST_STAGES: usize = 27;
 /// The inverse of 2.
 pub const HALF: u32 = 1_006_632_961;
 
-/// Entry `k` is a root of 1 of order `2^k`: its powers are distinct up to that exponent, at which
-/// the power is 1.
+/// Entry `k` is a root of 1 of order `2^k`: its powers are distinct up to that exponent, at which the power is 1.
 pub static ROOTS: [u32; 28] = [
     1, 2013265920, 1728404513, 1592366214, 196396260, 760005850, 1721589904, 397765732, 1732600167,
     1753498361, 341742893, 1340477990, 1282623253, 298008106, 1657000625, 2009781145, 1421947380,
@@ -78,8 +76,8 @@ pub fn root(levels: usize) -> u32
     ROOTS[levels]
 }
 
-/// States that each root in [`ROOTS`] is the square of the next one, the first is 1 and the second
-/// is -1. Nothing else about them is used.
+/// States that each root in [`ROOTS`] is the square of the next one, the first is 1 and the second is -1. Nothing else
+/// about them is used.
 pub fn roots_are_squares()
     ensures first { slice_index ROOTS 0 ≡ 1 }
     ensures second { slice_index ROOTS 1 ≡ PRIME - 1 }

@@ -1,5 +1,4 @@
-//! A matrix in row-major order. The reversal of its rows and its transpose are one call of
-//! `p3_util` each.
+//! A matrix in row-major order. The reversal of its rows and its transpose are one call of `p3_util` each.
 
 ghost use Rattle.std.specs.Prelude.{◌≡◌, ℕ, ◌*◌, ◌<◌, ◌↔◌, IfOk, IfSome, IsSome, length, take, drop};
 ghost use Rattle.p3_util.specs.Reversal.{IsRowReversal, IsZeroOrPowerOfTwo};
@@ -29,8 +28,8 @@ impl<T> Model for RowMajorMatrix<T> {
 }
 
 impl<T> RowMajorMatrix<T> {
-    /// The matrix of these values in rows of `width`, or `None` if they do not make whole rows. A
-    /// width of 0 needs an empty list of values, and then there are no rows.
+    /// The matrix of these values in rows of `width`, or `None` if they do not make whole rows. A width of 0 needs an
+    /// empty list of values, and then there are no rows.
     pub fn new(values: Vec<T>, width: usize) -> Option<Self>
     where
         T: Drop,
@@ -82,8 +81,8 @@ impl<T> RowMajorMatrix<T> {
         &self.values[start..start + self.width]
     }
 
-    /// Puts the rows into the order of their reversed index bits. The number of rows must be zero
-    /// or a power of two, which `fits_rows(height, 1)` of `p3_util::reverse` checks.
+    /// Puts the rows into the order of their reversed index bits. The number of rows must be zero or a power of two,
+    /// which `fits_rows(height, 1)` of `p3_util::reverse` checks.
     pub fn bit_reverse_rows(&mut self)
         requires { IsZeroOrPowerOfTwo self.old.height }
         ensures order { IsRowReversal self.old.width self.old.items self.new.items }

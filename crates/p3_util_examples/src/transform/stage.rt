@@ -5,8 +5,8 @@ ghost use Rattle.p3_util_examples.specs.Stages.{AreBelowPrime, AreBlocksJoined, 
 
 use crate::transform::field::{PRIME, add, mul, sub};
 
-/// Joins two rows: row `low` becomes the sum of itself and `twiddle` times row `high`, and row
-/// `high` becomes the difference.
+/// Joins two rows: row `low` becomes the sum of itself and `twiddle` times row `high`, and row `high` becomes the
+/// difference.
 fn join_rows(values: &mut [u32], width: usize, low: usize, high: usize, twiddle: u32)
     requires apart { low < high }
     requires inside { high * width + width ≤ length values.old }
@@ -24,8 +24,7 @@ fn join_rows(values: &mut [u32], width: usize, low: usize, high: usize, twiddle:
     }
 }
 
-/// Joins the two halves of a block, row by row: `half` rows from `first` on, and as many after
-/// them.
+/// Joins the two halves of a block, row by row: `half` rows from `first` on, and as many after them.
 fn join_halves(values: &mut [u32], width: usize, first: usize, half: usize, twiddles: &Twiddles)
     requires rows { first + 2 * half < 2 ^ 64 }
     requires inside { (first + 2 * half) * width ≤ length values.old }

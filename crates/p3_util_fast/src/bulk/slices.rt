@@ -1,5 +1,5 @@
-//! How the holders of slices make many steps at once: runs of places are exchanged as slices, and the
-//! rows of a block are read as slices.
+//! How the holders of slices make many steps at once: runs of places are exchanged as slices, and the rows of a block
+//! are read as slices.
 
 ghost use Rattle.std.specs.Prelude.{Some, IfSome, slice_get, take, drop, ◌≡◌, ℕ, ◌+◌, ◌-◌, ◌*◌, ◌<◌, ◌≤◌, ◌⊎◌, ◌++◌, length, swap};
 ghost use Rattle.p3_util_fast.specs.BlockPut.{AreRows, BlockFits, IsBlockPut, block_items};
@@ -46,8 +46,7 @@ impl<'a, T: Copy> Blocked for SliceCells<'a, T> {
     }
 }
 
-/// Does the same as [`put_rows`]. It is not inlined, so the compiler knows that the lists do not
-/// overlap.
+/// Does the same as [`put_rows`]. It is not inlined, so the compiler knows that the lists do not overlap.
 #[inline(never)]
 fn put_rows_apart<const ROWS: usize, T: Copy>(values: &mut [T], items: &[T], block: Block)
     requires some { 0 < block.rows }
@@ -60,8 +59,8 @@ fn put_rows_apart<const ROWS: usize, T: Copy>(values: &mut [T], items: &[T], blo
     put_rows::<ROWS, _>(values, items, block);
 }
 
-/// Puts a block of `ROWS` rows, column after column. One test is made for each row and each column,
-/// and none for a single item.
+/// Puts a block of `ROWS` rows, column after column. One test is made for each row and each column, and none for a
+/// single item.
 #[inline(always)]
 fn put_rows<const ROWS: usize, T: Copy>(values: &mut [T], items: &[T], block: Block)
     requires some { 0 < block.rows }
@@ -79,8 +78,8 @@ fn put_rows<const ROWS: usize, T: Copy>(values: &mut [T], items: &[T], block: Bl
     }
 }
 
-/// An array whose first `ROWS` items are the rows of a block. The compiler knows that these slices
-/// have one length. The checker takes no array of `ROWS` references, so the array has 16 items.
+/// An array whose first `ROWS` items are the rows of a block. The compiler knows that these slices have one length. The
+/// checker takes no array of `ROWS` references, so the array has 16 items.
 #[inline(always)]
 fn rows_of<const ROWS: usize, T>(items: &[T], block: Block) -> [&[T]; 16]
     requires most { ROWS ≤ 16 }

@@ -1,5 +1,5 @@
-//! Blocks whose columns are whole cache lines: each column is stored from its first cell to its last, one right
-//! after the other.
+//! Blocks whose columns are whole cache lines: each column is stored from its first cell to its last, one right after
+//! the other.
 
 ghost use Rattle.std.specs.Prelude.{◌≡◌, ℕ, ◌+◌, ◌*◌, ◌^◌, ◌<◌, ◌≤◌, ◌⊎◌, ◌++◌, length};
 ghost use Rattle.p3_util_fast.specs.BlockPut.{BlockFits, IsBlockPut, block_items};
@@ -10,8 +10,8 @@ use crate::bulk::Block;
 use crate::registers::blocks::starts;
 use crate::registers::{Four, Loads, Register, Runs, load, load_two, next_stage};
 
-/// Reads 8 rows, from place `from` on, and transposes them. The registers hold the columns, of 8 items
-/// each, one after another.
+/// Reads 8 rows, from place `from` on, and transposes them. The registers hold the columns, of 8 items each, one after
+/// another.
 #[inline(always)]
 fn load_lines<T, D: Register<T>, S: Loads<T, D>>(list: &S, from: usize, width: usize) -> Four<D>
     requires side { (D.SIDE ≡ 2) ⊎ (D.SIDE ≡ 4) }
@@ -151,8 +151,8 @@ fn put_four<T, D: Register<T>, S: Loads<T, D>, M: Runs<T, D>>(
     put_line(cells, block, col, a, b);
 }
 
-/// Does what `Blocked::put_block` does, for blocks of 4 * `D::SIDE` rows and as many columns, or of one column, column after
-/// column.
+/// Does what `Blocked::put_block` does, for blocks of 4 * `D::SIDE` rows and as many columns, or of one column, column
+/// after column.
 #[inline(always)]
 pub(crate) fn put_by_lines<T, D: Register<T>, S: Loads<T, D>, M: Runs<T, D>>(
     cells: &mut M,

@@ -9,9 +9,9 @@ use crate::strips::TINY_MATRIX;
 use crate::ways::{Columns, PutRegion};
 use p3_util_kernels::transpose::Matrix;
 
-/// Transposes a matrix in an order that is chosen by its shape alone. The source is passed by value, here and in the functions
-/// that this one calls. Behind a reference, the address of the items would be read from memory
-/// again for each item.
+/// Transposes a matrix in an order that is chosen by its shape alone. The source is passed by value, here and in the
+/// functions that this one calls. Behind a reference, the address of the items would be read from memory again for each
+/// item.
 #[inline(always)]
 pub(crate) fn transpose_by_shape<M: Blocked, R: Ahead<Item = M::Item> + Copy>(
     out: M,
@@ -32,8 +32,8 @@ pub(crate) fn transpose_by_shape<M: Blocked, R: Ahead<Item = M::Item> + Copy>(
     }
 }
 
-/// Does the same as [`transpose_by_shape`], in the order for a matrix that is not tiny. It is not
-/// inlined, so that calls for tiny matrices stay short.
+/// Does the same as [`transpose_by_shape`], in the order for a matrix that is not tiny. It is not inlined, so that
+/// calls for tiny matrices stay short.
 #[inline(never)]
 fn transpose_outlined<M: Blocked, R: Ahead<Item = M::Item> + Copy>(out: M, matrix: Matrix<R>) -> M
     requires input_fits { length (R.items matrix.source) ≡ matrix.width * matrix.height }

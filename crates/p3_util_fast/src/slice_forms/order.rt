@@ -37,16 +37,15 @@ pub(crate) enum ShapeStrips {
 }
 
 impl ShapeStrips {
-    /// The strips for `matrix`, chosen by its shape alone. Every call in Rattle uses this choice.
-    /// The plain Rust package knows the size of an item and may choose others.
+    /// The strips for `matrix`, chosen by its shape alone. Every call in Rattle uses this choice. The plain Rust
+    /// package knows the size of an item and may choose others.
     ///
-    /// A strip is read column by column, so a cache line of each of its rows is in use at the same
-    /// time. If 16 divides the width, the distance of two rows may be a multiple of a high power of
-    /// two. The cache lines of a high strip then fall into few sets of the cache, and each line is
-    /// evicted before its next item is read. Those of 24 rows stay in the cache, and a small matrix,
-    /// which stays there in any order, is put by squares of 4 by 4 items. With other widths, the rows
-    /// are spread over the sets of the cache. A high strip is better there, since it puts longer runs
-    /// of consecutive cells.
+    /// A strip is read column by column, so a cache line of each of its rows is in use at the same time. If 16 divides
+    /// the width, the distance of two rows may be a multiple of a high power of two. The cache lines of a high strip
+    /// then fall into few sets of the cache, and each line is evicted before its next item is read. Those of 24 rows
+    /// stay in the cache, and a small matrix, which stays there in any order, is put by squares of 4 by 4 items. With
+    /// other widths, the rows are spread over the sets of the cache. A high strip is better there, since it puts longer
+    /// runs of consecutive cells.
     pub(crate) fn by_shape<R: Source + Copy>(matrix: Matrix<R>) -> Self {
         if matrix.width % UNIT != 0 {
             ShapeStrips::High
@@ -79,8 +78,8 @@ impl PutRegion for ShapeStrips {
 }
 
 impl Order {
-    /// The order for a whole matrix that is not tiny, chosen by its shape alone. Every call in Rattle
-    /// uses this choice. The plain Rust package knows the size of an item and has a choice of its own.
+    /// The order for a whole matrix that is not tiny, chosen by its shape alone. Every call in Rattle uses this choice.
+    /// The plain Rust package knows the size of an item and has a choice of its own.
     #[inline(always)]
     pub(crate) fn by_shape<R: Source + Copy>(matrix: Matrix<R>) -> Self
         ensures len_fits { length (R.items matrix.source) < 2 ^ 64 }

@@ -1,5 +1,5 @@
-//! Puts a large region: halves its longer side, and does the same with each half, until the parts
-//! are leaves. A *leaf* is a part that is small or narrow.
+//! Puts a large region: halves its longer side, and does the same with each half, until the parts are leaves. A *leaf*
+//! is a part that is small or narrow.
 
 ghost use Rattle.std.specs.Prelude.{◌≡◌, ◌+◌, ◌*◌, ◌/◌, ◌<◌, ◌≤◌, max, length};
 ghost use Rattle.std.specs.Bool.{MatchBool};
@@ -12,8 +12,8 @@ use crate::ways::PutRegion;
 use p3_util_kernels::transpose::split::{cut_in_half, is_leaf};
 use p3_util_kernels::transpose::{Matrix, Region};
 
-/// Splits `region` into leaves, with splits that nest at most `levels` deep, and puts each leaf in the
-/// way `leaf`. Also returns how deep the splits nest.
+/// Splits `region` into leaves, with splits that nest at most `levels` deep, and puts each leaf in the way `leaf`. Also
+/// returns how deep the splits nest.
 pub(crate) fn put_split<M: Blocked, R: Ahead<Item = M::Item> + Copy, W: PutRegion>(
     out: M,
     matrix: Matrix<R>,

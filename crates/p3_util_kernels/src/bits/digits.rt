@@ -1,16 +1,16 @@
-//! Reverses the binary digits of an integer by halves: the two halves change places, then the two
-//! halves of each half, and so on, down to single digits.
+//! Reverses the binary digits of an integer by halves: the two halves change places, then the two halves of each half,
+//! and so on, down to single digits.
 //!
-//! LLVM compiles this to one instruction on ARM, and to a byte swap and three rounds of masks and
-//! shifts on x86-64. For std's `reverse_bits`, Rattle's compilers make a loop over single digits
-//! instead, which takes about 20 ns for each call.
+//! LLVM compiles this to one instruction on ARM, and to a byte swap and three rounds of masks and shifts on x86-64. For
+//! std's `reverse_bits`, Rattle's compilers make a loop over single digits instead, which takes about 20 ns for each
+//! call.
 
 ghost use Rattle.std.specs.Prelude.{◌≡◌, ℕ, ◌*◌, ◌/◌, ◌^◌, ◌<◌, ◌≤◌, ◌%◌, bit_and, bit_or};
 ghost use Rattle.p3_util_kernels.specs.Digits.{rev, rev_word};
 ghost use Rattle.p3_util_kernels.specs.Powers.{HasLog2};
 
-/// Reverses the k low binary digits of `x`, where `n` is 2^k. This call does not check that `n` is a
-/// power of two, and std's `is_power_of_two` does.
+/// Reverses the k low binary digits of `x`, where `n` is 2^k. This call does not check that `n` is a power of two, and
+/// std's `is_power_of_two` does.
 ///
 /// This is `reverse_bits_len(x, k)`.
 #[inline(always)]
@@ -23,8 +23,8 @@ pub const fn reverse_bits(x: usize, n: usize) -> usize
     reverse_bits_len(x, n.trailing_zeros() as usize)
 }
 
-/// Reverses the `bit_len` low binary digits of `x` and drops the others. `bit_len` must be at most
-/// 64, which this call does not check. A `bit_len` of 0 reverses all 64 digits.
+/// Reverses the `bit_len` low binary digits of `x` and drops the others. `bit_len` must be at most 64, which this call
+/// does not check. A `bit_len` of 0 reverses all 64 digits.
 #[inline(always)]
 pub const fn reverse_bits_len(x: usize, bit_len: usize) -> usize
     requires { bit_len ≤ 64 }

@@ -5,17 +5,15 @@ ghost use Rattle.p3_util_kernels.specs.Names.{is_mark, last_part, short_name};
 
 use std::alloc::{AllocError, Global};
 
-/// The short name of a type: `alloc::vec::Vec<core::option::Option<u32>>` becomes
-/// `Vec<Option<u32>>`.
+/// The short name of a type: `alloc::vec::Vec<core::option::Option<u32>>` becomes `Vec<Option<u32>>`.
 ///
-/// The name is cut after each `<`, `>` and `,`. Of each piece, only what follows its last `::` is
-/// kept. So a bracket or a `&` in front of a path is lost with the path. Each `::` is looked for
-/// from left to right, so `a:::b` becomes `:b`.
+/// The name is cut after each `<`, `>` and `,`. Of each piece, only what follows its last `::` is kept. So a bracket or
+/// a `&` in front of a path is lost with the path. Each `::` is looked for from left to right, so `a:::b` becomes `:b`.
 ///
 /// # Errors
 ///
-/// `AllocError` if there is no memory for as many bytes as `name` has. The call requests no more
-/// than that. With an empty name it never fails.
+/// `AllocError` if there is no memory for as many bytes as `name` has. The call requests no more than that. With an
+/// empty name it never fails.
 pub fn pretty_name(alloc: Global, name: &str) -> Result<String, AllocError>
     ensures short { IfOk result (λ s. string_bytes s ≡ short_name name.now) }
     ensures refused { OnErr result (0 < length name.now) }

@@ -1,8 +1,8 @@
 //! Counters: holders around another holder, which count its exchanges or its puts.
 //!
-//! A counter is itself a holder, as [`places`](crate::places) explains. The count rises by 1 with
-//! each step that the holder inside makes. No other module can reach the fields of a counter. So
-//! whoever has one can change the list inside only by steps that are counted.
+//! A counter is itself a holder, as [`places`](crate::places) explains. The count rises by 1 with each step that the
+//! holder inside makes. No other module can reach the fields of a counter. So whoever has one can change the list
+//! inside only by steps that are counted.
 
 ghost use Rattle.std.specs.Prelude.{◌≡◌, ◌^◌, ◌<◌, length, swap, slice_set};
 ghost use Rattle.std.proofs.Common.{rules};
@@ -36,8 +36,7 @@ impl<S: Places> Swaps<S> {
         self.holder.len()
     }
 
-    /// Makes one swap: the holder inside exchanges the items at places `i` and `j`, and the counter
-    /// counts this.
+    /// Makes one swap: the holder inside exchanges the items at places `i` and `j`, and the counter counts this.
     #[inline(always)]
     pub fn swap(&mut self, i: usize, j: usize)
         requires first { i < length (S.items self.old.holder) }

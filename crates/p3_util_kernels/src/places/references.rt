@@ -1,5 +1,5 @@
-//! References to holders. Such a reference is a holder too: each step and each read is made by the
-//! holder behind the reference.
+//! References to holders. Such a reference is a holder too: each step and each read is made by the holder behind the
+//! reference.
 
 ghost use Rattle.std.specs.Prelude.{◌≡◌};
 ghost use Rattle.std.proofs.Common.{rules};

@@ -1,5 +1,5 @@
-//! The holders of slices. [`SlicePlaces`] exchanges items, [`SliceCells`] puts items into the
-//! slice, and [`SliceSource`] reads items.
+//! The holders of slices. [`SlicePlaces`] exchanges items, [`SliceCells`] puts items into the slice, and
+//! [`SliceSource`] reads items.
 
 ghost use Rattle.std.specs.Prelude.{IfSome, slice_get, take, drop, ◌≡◌, ℕ, ◌+◌, ◌*◌, ◌<◌, length};
 ghost use Rattle.std.proofs.Common.{rules};

@@ -1,8 +1,7 @@
-//! The short path of bit reversal, for rows of any width. Single items are rows of one item, and
-//! chunks are rows too.
+//! The short path of bit reversal, for rows of any width. Single items are rows of one item, and chunks are rows too.
 //!
-//! Each pair of rows whose indices are each other's reverse is swapped once, item by item. All
-//! other rows stay where they are.
+//! Each pair of rows whose indices are each other's reverse is swapped once, item by item. All other rows stay where
+//! they are.
 
 ghost use Rattle.std.specs.Prelude.{◌≡◌, ◌+◌, ◌*◌, ◌^◌, ◌<◌, ◌≤◌, length};
 ghost use Rattle.p3_util_kernels.specs.Digits.{rev};
@@ -22,8 +21,8 @@ pub const REVERSED_SIX: [u8; 64] = [
     19, 51, 11, 43, 27, 59, 7, 39, 23, 55, 15, 47, 31, 63,
 ];
 
-/// Reverses the `digits` binary digits of `x`. Up to six digits are read from the table. If there
-/// are more, the table has the six lowest, and another call reverses the others.
+/// Reverses the `digits` binary digits of `x`. Up to six digits are read from the table. If there are more, the table
+/// has the six lowest, and another call reverses the others.
 fn reversed_index(x: usize, digits: usize) -> usize
     requires few { digits < 64 }
     requires below { x < 2 ^ digits }

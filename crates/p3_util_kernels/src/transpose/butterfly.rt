@@ -1,19 +1,18 @@
-//! The transpose of a block of 4 by 4 items in two stages. Each stage exchanges one bit of the row
-//! number with the same bit of the column number. Each tile of a transpose is put in such blocks.
+//! The transpose of a block of 4 by 4 items in two stages. Each stage exchanges one bit of the row number with the same
+//! bit of the column number. Each tile of a transpose is put in such blocks.
 
 ghost use Rattle.std.specs.Prelude.{[], ◌∷◌, ℕ, ◌≡◌, ◌+◌, ◌*◌, ◌<◌};
 ghost use Rattle.p3_util_kernels.specs.Stages.{IsBlockTransposed, IsStageOne, IsStageTwo, item_at};
 
-/// The transpose of a block: the item in row r and column c of the result comes from row c and
-/// column r.
+/// The transpose of a block: the item in row r and column c of the result comes from row c and column r.
 pub fn butterfly_4x4<T: Copy>(block: [[T; 4]; 4]) -> [[T; 4]; 4]
     ensures { IsBlockTransposed block result }
 {
     butterfly_stage2(butterfly_stage1(block))
 }
 
-/// Exchanges the lowest bit of the row number with the lowest bit of the column number. This
-/// transposes each of the four squares of 2 by 2 items.
+/// Exchanges the lowest bit of the row number with the lowest bit of the column number. This transposes each of the
+/// four squares of 2 by 2 items.
 pub fn butterfly_stage1<T: Copy>(block: [[T; 4]; 4]) -> [[T; 4]; 4]
     ensures { IsStageOne block result }
 {

@@ -1,9 +1,9 @@
 //! Regions of a matrix, and the transpose of one region.
 //!
-//! A region of r rows and c columns has `r / 16` rows of `c / 16` whole tiles. They are put first,
-//! from left to right and then from top to bottom. The columns to the right of them are the *right
-//! edge*, and the rows below them the *bottom edge*. The *corner* lies both below and to the right.
-//! These three are copied plainly: column after column, with one put for each item.
+//! A region of r rows and c columns has `r / 16` rows of `c / 16` whole tiles. They are put first, from left to right
+//! and then from top to bottom. The columns to the right of them are the *right edge*, and the rows below them the
+//! *bottom edge*. The *corner* lies both below and to the right. These three are copied plainly: column after column,
+//! with one put for each item.
 
 ghost use Rattle.std.specs.Prelude.{◌≡◌, ℕ, ◌+◌, ◌*◌, ◌%◌, ◌<◌, ◌≤◌, ◌⊎◌, ◌↔◌, IsTrue, length, slice_get};
 ghost use Rattle.p3_util_kernels.specs.Halves.{IsCut};
@@ -73,8 +73,8 @@ pub struct Region {
 }
 
 impl Region {
-    /// Whether the region lies in a matrix of `height` rows of `width` items: `row_start <= row_end
-    /// <= height` and `col_start <= col_end <= width`.
+    /// Whether the region lies in a matrix of `height` rows of `width` items: `row_start <= row_end <= height` and
+    /// `col_start <= col_end <= width`.
     ///
     /// This tests the precondition that the calls on a region have in common.
     #[inline]
@@ -134,8 +134,8 @@ impl Region {
         }
     }
 
-    /// Cuts the region above row `middle` of the matrix. Returns the upper part, which ends before
-    /// that row, and the lower part, which begins with it.
+    /// Cuts the region above row `middle` of the matrix. Returns the upper part, which ends before that row, and the
+    /// lower part, which begins with it.
     #[inline(always)]
     #[doc(hidden)]
     pub fn cut_rows(self, middle: usize) -> (Region, Region)
@@ -149,8 +149,8 @@ impl Region {
         (upper, self.with_rows(middle, self.row_end))
     }
 
-    /// Cuts the region to the left of column `middle` of the matrix. Returns the left part, which
-    /// ends before that column, and the right part, which begins with it.
+    /// Cuts the region to the left of column `middle` of the matrix. Returns the left part, which ends before that
+    /// column, and the right part, which begins with it.
     #[inline(always)]
     #[doc(hidden)]
     pub fn cut_cols(self, middle: usize) -> (Region, Region)
@@ -164,8 +164,8 @@ impl Region {
         (left, self.with_cols(middle, self.col_end))
     }
 
-    /// Returns the same region. If the caller passes constants, the compiler then knows how many
-    /// rows and columns the region has.
+    /// Returns the same region. If the caller passes constants, the compiler then knows how many rows and columns the
+    /// region has.
     #[inline(always)]
     #[doc(hidden)]
     pub fn with_known_sides(self, rows: usize, cols: usize) -> Region
@@ -186,11 +186,10 @@ impl Region {
 
 /// Writes the transpose of `region` to `out`, with one write for each item.
 ///
-/// The region is a part of `input`, a matrix of `height` rows of `width` items. For each row y and
-/// column x of the region, the item at `y * width + x` of `input` is written to cell `x * height +
-/// y`. All other cells keep their items. Both lengths must be `width * height`, which
-/// [`fits_matrix`](crate::transpose::fits_matrix) checks. The region must lie in the matrix, which
-/// [`Region::fits`] checks.
+/// The region is a part of `input`, a matrix of `height` rows of `width` items. For each row y and column x of the
+/// region, the item at `y * width + x` of `input` is written to cell `x * height + y`. All other cells keep their
+/// items. Both lengths must be `width * height`, which [`fits_matrix`](crate::transpose::fits_matrix) checks. The
+/// region must lie in the matrix, which [`Region::fits`] checks.
 pub fn transpose_region_on<C: Cells>(
     input: &[C::Item],
     out: &mut Writes<C>,

@@ -1,9 +1,9 @@
 //! Transposes a square of items in place, by quadrants.
 //!
-//! Each item above the diagonal is swapped once with its mirror image. A square of more than 8 rows
-//! is cut into quadrants. The upper left one is transposed first. Then the upper right one is
-//! swapped with the lower left one across the diagonal, and at last the lower right one is
-//! transposed. Blocks that are swapped across the diagonal are halved until they are small.
+//! Each item above the diagonal is swapped once with its mirror image. A square of more than 8 rows is cut into
+//! quadrants. The upper left one is transposed first. Then the upper right one is swapped with the lower left one
+//! across the diagonal, and at last the lower right one is transposed. Blocks that are swapped across the diagonal are
+//! halved until they are small.
 
 ghost use Rattle.std.specs.Prelude.{◌≡◌, ◌+◌, ◌-◌, ◌*◌, ◌/◌, ◌^◌, ◌<◌, ◌≤◌, ◌↔◌, IsTrue, length};
 ghost use Rattle.p3_util_kernels.specs.Diagonal.{SwapsAcross};
@@ -22,9 +22,9 @@ const SMALL_BLOCK: usize = 64;
 
 /// Whether a list of `len` items holds a square of `s = 2^log_size` rows and columns.
 ///
-/// The square begins at place `base`, and its rows begin `2^log_stride` places apart. No row may
-/// reach into the next one, and the last place of the square must lie in the list. That place is
-/// computed without wrapping. This tests the preconditions of [`transpose_square_on`].
+/// The square begins at place `base`, and its rows begin `2^log_stride` places apart. No row may reach into the next
+/// one, and the last place of the square must lie in the list. That place is computed without wrapping. This tests the
+/// preconditions of [`transpose_square_on`].
 #[inline]
 #[must_use]
 pub const fn fits_square(len: usize, base: usize, log_stride: usize, log_size: usize) -> bool
@@ -35,8 +35,7 @@ pub const fn fits_square(len: usize, base: usize, log_stride: usize, log_size: u
     if log_stride >= 64 || log_size > log_stride {
         return false;
     }
-    // The last place of the square is `last` rows below its first place and `last` columns to the
-    // right of it.
+    // The last place of the square is `last` rows below its first place and `last` columns to the right of it.
     let last = pow2(log_size) - 1;
     match last.checked_mul(pow2(log_stride) + 1) {
         Some(distance) => distance < len.saturating_sub(base),
@@ -46,12 +45,12 @@ pub const fn fits_square(len: usize, base: usize, log_stride: usize, log_size: u
 
 /// Transposes a square in place, by `s * (s - 1) / 2` swaps.
 ///
-/// The square has `s = 2^log_size` rows and columns. It begins at place `base`, and its rows begin
-/// `2^log_stride` places apart. All other places keep their items.
+/// The square has `s = 2^log_size` rows and columns. It begins at place `base`, and its rows begin `2^log_stride`
+/// places apart. All other places keep their items.
 ///
-/// `log_size` must be at most `log_stride`, so that no row reaches into the next one, and
-/// `log_stride` must be below 64. The list must hold the last place of the square,
-/// `base + (s - 1) * 2^log_stride + s - 1`. [`fits_square`] checks all of this.
+/// `log_size` must be at most `log_stride`, so that no row reaches into the next one, and `log_stride` must be below
+/// 64. The list must hold the last place of the square, `base + (s - 1) * 2^log_stride + s - 1`. [`fits_square`] checks
+/// all of this.
 pub fn transpose_square_on<S: Places>(
     m: &mut Swaps<S>,
     base: usize,
@@ -182,8 +181,8 @@ fn transpose_small<S: Places>(m: &mut Swaps<S>, square: Square, lines: Lines)
     }
 }
 
-/// Swaps a block above the diagonal, with the rows `rows` and the columns `cols`, with its mirror
-/// image below the diagonal.
+/// Swaps a block above the diagonal, with the rows `rows` and the columns `cols`, with its mirror image below the
+/// diagonal.
 fn swap_block<S: Places>(m: &mut Swaps<S>, square: Square, rows: Lines, cols: Lines)
     requires rows { rows.start ≤ rows.end }
     requires above { rows.end ≤ cols.start }

@@ -1,8 +1,7 @@
-//! A tile of 16 by 16 items, which is 16 blocks of 4 by 4 items. Each block is transposed by
-//! [`butterfly_4x4`].
+//! A tile of 16 by 16 items, which is 16 blocks of 4 by 4 items. Each block is transposed by [`butterfly_4x4`].
 //!
-//! A *direct* tile puts each block straight into the output. A *buffered* tile collects its blocks
-//! in an array of 256 items, and then puts the 16 runs of 16 items that this array has.
+//! A *direct* tile puts each block straight into the output. A *buffered* tile collects its blocks in an array of 256
+//! items, and then puts the 16 runs of 16 items that this array has.
 
 ghost use Rattle.std.specs.Prelude.{◌≡◌, ℕ, ◌+◌, ◌*◌, ◌^◌, ◌<◌, ◌≤◌, ◌⊎◌, IsTrue, length, slice_get, drop};
 ghost use Rattle.p3_util_kernels.specs.Region.{IsRegionTransposed, LiesInMatrix, cols_of, items_of, rows_of};
@@ -60,8 +59,7 @@ where
     }
 }
 
-/// Whether 256 items like this one fit in an array. No item of a real program is so long that they
-/// do not.
+/// Whether 256 items like this one fit in an array. No item of a real program is so long that they do not.
 pub(crate) fn fits_tile<T>(item: &T) -> bool
     ensures { IsTrue result → 256 * size (layout T.row) < 2 ^ 63 }
 {

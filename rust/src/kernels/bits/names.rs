@@ -3,17 +3,15 @@
 
 use crate::memory::{AllocError, Global, String};
 
-/// The short name of a type: `alloc::vec::Vec<core::option::Option<u32>>` becomes
-/// `Vec<Option<u32>>`.
+/// The short name of a type: `alloc::vec::Vec<core::option::Option<u32>>` becomes `Vec<Option<u32>>`.
 ///
-/// The name is cut after each `<`, `>` and `,`. Of each piece, only what follows its last `::` is
-/// kept. So a bracket or a `&` in front of a path is lost with the path. Each `::` is looked for
-/// from left to right, so `a:::b` becomes `:b`.
+/// The name is cut after each `<`, `>` and `,`. Of each piece, only what follows its last `::` is kept. So a bracket or
+/// a `&` in front of a path is lost with the path. Each `::` is looked for from left to right, so `a:::b` becomes `:b`.
 ///
 /// # Errors
 ///
-/// `AllocError` if there is no memory for as many bytes as `name` has. The call requests no more
-/// than that. With an empty name it never fails.
+/// `AllocError` if there is no memory for as many bytes as `name` has. The call requests no more than that. With an
+/// empty name it never fails.
 pub fn pretty_name(alloc: Global, name: &str) -> Result<String, AllocError> {
     let mut short = String::with_capacity(alloc, name.len())?;
     let mut rest = name;

@@ -1,6 +1,6 @@
 // rust/erase writes this file from crates/p3_util_fast/src/bulk/slices.rt. Make changes there.
-//! How the holders of slices make many steps at once: runs of places are exchanged as slices, and the
-//! rows of a block are read as slices.
+//! How the holders of slices make many steps at once: runs of places are exchanged as slices, and the rows of a block
+//! are read as slices.
 
 use crate::kernels::bulk::{Ahead, Block, Blocked, Tiled};
 use crate::kernels::places::{SliceCells, SlicePlaces, SliceSource, len_fits};
@@ -41,15 +41,14 @@ impl<'a, T: Copy> Blocked for SliceCells<'a, T> {
     }
 }
 
-/// Does the same as [`put_rows`]. It is not inlined, so the compiler knows that the lists do not
-/// overlap.
+/// Does the same as [`put_rows`]. It is not inlined, so the compiler knows that the lists do not overlap.
 #[inline(never)]
 fn put_rows_apart<const ROWS: usize, T: Copy>(values: &mut [T], items: &[T], block: Block) {
     put_rows::<ROWS, _>(values, items, block);
 }
 
-/// Puts a block of `ROWS` rows, column after column. One test is made for each row and each column,
-/// and none for a single item.
+/// Puts a block of `ROWS` rows, column after column. One test is made for each row and each column, and none for a
+/// single item.
 #[inline(always)]
 fn put_rows<const ROWS: usize, T: Copy>(values: &mut [T], items: &[T], block: Block) {
     len_fits(items.len() as usize);
@@ -60,8 +59,8 @@ fn put_rows<const ROWS: usize, T: Copy>(values: &mut [T], items: &[T], block: Bl
     }
 }
 
-/// An array whose first `ROWS` items are the rows of a block. The compiler knows that these slices
-/// have one length. The checker takes no array of `ROWS` references, so the array has 16 items.
+/// An array whose first `ROWS` items are the rows of a block. The compiler knows that these slices have one length. The
+/// checker takes no array of `ROWS` references, so the array has 16 items.
 #[inline(always)]
 fn rows_of<const ROWS: usize, T>(items: &[T], block: Block) -> [&[T]; 16] {
     let mut rows = [items; 16];

@@ -1,6 +1,6 @@
 // rust/erase writes this file from crates/p3_util/src/linear_map/iter.rt. Make changes there.
-//! The iterators that lend the pairs, the keys or the values of a map, in its order. A contract
-//! sees each of them as the list of the items that are left.
+//! The iterators that lend the pairs, the keys or the values of a map, in its order. A contract sees each of them as
+//! the list of the items that are left.
 
 use core::iter::FusedIterator;
 use core::slice;

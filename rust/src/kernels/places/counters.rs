@@ -1,9 +1,9 @@
 // rust/erase writes this file from crates/p3_util_kernels/src/places/counters.rt. Make changes there.
 //! Counters: holders around another holder, which count its exchanges or its puts.
 //!
-//! A counter is itself a holder, as [`places`](crate::kernels::places) explains. The count rises by 1 with
-//! each step that the holder inside makes. No other module can reach the fields of a counter. So
-//! whoever has one can change the list inside only by steps that are counted.
+//! A counter is itself a holder, as [`places`](crate::kernels::places) explains. The count rises by 1 with each step that the
+//! holder inside makes. No other module can reach the fields of a counter. So whoever has one can change the list
+//! inside only by steps that are counted.
 
 use crate::kernels::places::{Cells, Places, len_fits};
 #[cfg(target_pointer_width = "32")]
@@ -28,8 +28,7 @@ impl<S: Places> Swaps<S> {
         self.holder.len()
     }
 
-    /// Makes one swap: the holder inside exchanges the items at places `i` and `j`, and the counter
-    /// counts this.
+    /// Makes one swap: the holder inside exchanges the items at places `i` and `j`, and the counter counts this.
     #[inline(always)]
     pub fn swap(&mut self, i: usize, j: usize) {
         self.holder.exchange(i, j);

@@ -1,6 +1,6 @@
 // rust/erase writes this file from crates/p3_util_kernels/src/places/references.rt. Make changes there.
-//! References to holders. Such a reference is a holder too: each step and each read is made by the
-//! holder behind the reference.
+//! References to holders. Such a reference is a holder too: each step and each read is made by the holder behind the
+//! reference.
 
 use crate::kernels::places::{Cells, Places, Source};
 #[cfg(target_pointer_width = "32")]

@@ -1,6 +1,6 @@
 // rust/erase writes this file from crates/p3_util_kernels/src/places/slices.rt. Make changes there.
-//! The holders of slices. [`SlicePlaces`] exchanges items, [`SliceCells`] puts items into the
-//! slice, and [`SliceSource`] reads items.
+//! The holders of slices. [`SlicePlaces`] exchanges items, [`SliceCells`] puts items into the slice, and
+//! [`SliceSource`] reads items.
 
 use crate::kernels::places::{Cells, Places, Source};
 #[cfg(target_pointer_width = "32")]

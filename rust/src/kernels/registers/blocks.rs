@@ -24,9 +24,9 @@ pub(crate) trait LinesOfCells<T: Copy, D: Register<T>>: RunsOfCells<T, D> {
     fn may_stream_lines(&self, block: Block) -> bool;
 }
 
-/// Does what `Blocked::put_block` does: by squares if the block is one that the holder transposes in registers, and otherwise item
-/// by item. Registers are read from `runs`, which has the items of the source. A holder may read each run of these, and put each
-/// run that is within a column of the block.
+/// Does what `Blocked::put_block` does: by squares if the block is one that the holder transposes in registers, and
+/// otherwise item by item. Registers are read from `runs`, which has the items of the source. A holder may read each
+/// run of these, and put each run that is within a column of the block.
 #[inline(always)]
 pub(crate) fn put_block_in_squares<
     T: Copy,
@@ -54,8 +54,9 @@ pub(crate) fn put_block_in_squares<
     cells.put_block_singly(source, block);
 }
 
-/// Does what `Blocked::put_block` does: by whole lines if the holder may stream the lines of the block, and otherwise item by item.
-/// Registers are read from `runs`, which has the items of the source. A holder may read each run of these.
+/// Does what `Blocked::put_block` does: by whole lines if the holder may stream the lines of the block, and otherwise
+/// item by item. Registers are read from `runs`, which has the items of the source. A holder may read each run of
+/// these.
 #[inline(always)]
 pub(crate) fn put_block_in_lines<
     T: Copy,
@@ -77,8 +78,8 @@ pub(crate) fn put_block_in_lines<
     cells.put_block_singly(source, block);
 }
 
-/// Whether a block has the rows and columns of whole lines, and a source of `len` items has `side` items of each row, from the
-/// block's first column on.
+/// Whether a block has the rows and columns of whole lines, and a source of `len` items has `side` items of each row,
+/// from the block's first column on.
 #[inline(always)]
 fn is_of_lines(side: usize, block: Block, len: usize) -> bool {
     if side != 1 && side != 2 && side != 4 || block.rows != 4 * side {
@@ -108,8 +109,8 @@ pub(super) fn starts(first: usize, stride: usize, count: usize) -> [usize; 8] {
     eight!(start(first, stride, count))
 }
 
-/// Puts `D::SIDE` columns of a block, from column `col` on, which are squares one above another. If
-/// the block has 4 rows, the registers have each of its squares twice, and one of both is put.
+/// Puts `D::SIDE` columns of a block, from column `col` on, which are squares one above another. If the block has 4
+/// rows, the registers have each of its squares twice, and one of both is put.
 #[inline(always)]
 fn put_squares<T, D: Register<T>, S: Loads<T, D>, M: Runs<T, D>>(cells: &mut M, source: &S, block: Block, col: usize) {
     let from = in_columns(starts(block.from, block.width, block.rows), [col; 8]);

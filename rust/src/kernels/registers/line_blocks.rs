@@ -1,13 +1,13 @@
 // rust/erase writes this file from crates/p3_util_fast/src/registers/line_blocks.rt. Make changes there.
-//! Blocks whose columns are whole cache lines: each column is stored from its first cell to its last, one right
-//! after the other.
+//! Blocks whose columns are whole cache lines: each column is stored from its first cell to its last, one right after
+//! the other.
 
 use crate::kernels::bulk::Block;
 use crate::kernels::registers::blocks::starts;
 use crate::kernels::registers::{Four, Loads, Register, Runs, load, load_two, next_stage};
 
-/// Reads 8 rows, from place `from` on, and transposes them. The registers hold the columns, of 8 items
-/// each, one after another.
+/// Reads 8 rows, from place `from` on, and transposes them. The registers hold the columns, of 8 items each, one after
+/// another.
 #[inline(always)]
 fn load_lines<T, D: Register<T>, S: Loads<T, D>>(list: &S, from: usize, width: usize) -> Four<D> {
     let one = load(list, starts(from, width, 8));
@@ -77,8 +77,8 @@ fn put_four<T, D: Register<T>, S: Loads<T, D>, M: Runs<T, D>>(cells: &mut M, sou
     put_line(cells, block, col, a, b);
 }
 
-/// Does what `Blocked::put_block` does, for blocks of 4 * `D::SIDE` rows and as many columns, or of one column, column after
-/// column.
+/// Does what `Blocked::put_block` does, for blocks of 4 * `D::SIDE` rows and as many columns, or of one column, column
+/// after column.
 #[inline(always)]
 pub(crate) fn put_by_lines<T, D: Register<T>, S: Loads<T, D>, M: Runs<T, D>>(cells: &mut M, source: &S, block: Block) {
     let side = D::SIDE;

@@ -87,10 +87,10 @@ fn exchange_singly<M: Places>(list: &mut M, x: [usize; 8], y: [usize; 8]) {
     exchange_square(list, x, y, 4, 4);
 }
 
-/// Exchanges the square of 4 by 4 items of a tile from row `row` and column `col` on, with its mirror image in another tile: by
-/// its diagonals, of which all but the first go on at the other side of the square. The rows of a tile often begin at distances
-/// of whole pages. A processor compares the last 12 bits of addresses first, so a load from one row waits for a store to the same
-/// column of another one. Items of a diagonal are in different rows and columns.
+/// Exchanges the square of 4 by 4 items of a tile from row `row` and column `col` on, with its mirror image in another
+/// tile: by its diagonals, of which all but the first go on at the other side of the square. The rows of a tile often
+/// begin at distances of whole pages. A processor compares the last 12 bits of addresses first, so a load from one row
+/// waits for a store to the same column of another one. Items of a diagonal are in different rows and columns.
 #[inline(always)]
 fn exchange_square<M: Places>(list: &mut M, x: [usize; 8], y: [usize; 8], row: usize, col: usize) {
     let _len = list.len();

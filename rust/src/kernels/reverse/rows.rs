@@ -1,9 +1,8 @@
 // rust/erase writes this file from crates/p3_util_kernels/src/reverse/rows.rt. Make changes there.
-//! The short path of bit reversal, for rows of any width. Single items are rows of one item, and
-//! chunks are rows too.
+//! The short path of bit reversal, for rows of any width. Single items are rows of one item, and chunks are rows too.
 //!
-//! Each pair of rows whose indices are each other's reverse is swapped once, item by item. All
-//! other rows stay where they are.
+//! Each pair of rows whose indices are each other's reverse is swapped once, item by item. All other rows stay where
+//! they are.
 
 use crate::kernels::bits::pow2;
 use crate::kernels::places::{Places, Swaps};
@@ -17,8 +16,8 @@ pub(crate) const REVERSED_SIX: [u8; 64] = [
     15, 47, 31, 63,
 ];
 
-/// Reverses the `digits` binary digits of `x`. Up to six digits are read from the table. If there
-/// are more, the table has the six lowest, and another call reverses the others.
+/// Reverses the `digits` binary digits of `x`. Up to six digits are read from the table. If there are more, the table
+/// has the six lowest, and another call reverses the others.
 fn reversed_index(x: usize, digits: usize) -> usize {
     if digits <= 6 {
         return usize::from(REVERSED_SIX[x as core::primitive::usize]) >> (6 - digits);

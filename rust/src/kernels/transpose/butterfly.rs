@@ -1,15 +1,14 @@
 // rust/erase writes this file from crates/p3_util_kernels/src/transpose/butterfly.rt. Make changes there.
-//! The transpose of a block of 4 by 4 items in two stages. Each stage exchanges one bit of the row
-//! number with the same bit of the column number. Each tile of a transpose is put in such blocks.
+//! The transpose of a block of 4 by 4 items in two stages. Each stage exchanges one bit of the row number with the same
+//! bit of the column number. Each tile of a transpose is put in such blocks.
 
-/// The transpose of a block: the item in row r and column c of the result comes from row c and
-/// column r.
+/// The transpose of a block: the item in row r and column c of the result comes from row c and column r.
 pub fn butterfly_4x4<T: Copy>(block: [[T; 4]; 4]) -> [[T; 4]; 4] {
     butterfly_stage2(butterfly_stage1(block))
 }
 
-/// Exchanges the lowest bit of the row number with the lowest bit of the column number. This
-/// transposes each of the four squares of 2 by 2 items.
+/// Exchanges the lowest bit of the row number with the lowest bit of the column number. This transposes each of the
+/// four squares of 2 by 2 items.
 pub fn butterfly_stage1<T: Copy>(block: [[T; 4]; 4]) -> [[T; 4]; 4] {
     let [a, b, c, d] = block;
     let [w, x] = stage1_of_rows(a, b);

@@ -1,10 +1,10 @@
 // rust/erase writes this file from crates/p3_util_kernels/src/transpose/region.rt. Make changes there.
 //! Regions of a matrix, and the transpose of one region.
 //!
-//! A region of r rows and c columns has `r / 16` rows of `c / 16` whole tiles. They are put first,
-//! from left to right and then from top to bottom. The columns to the right of them are the *right
-//! edge*, and the rows below them the *bottom edge*. The *corner* lies both below and to the right.
-//! These three are copied plainly: column after column, with one put for each item.
+//! A region of r rows and c columns has `r / 16` rows of `c / 16` whole tiles. They are put first, from left to right
+//! and then from top to bottom. The columns to the right of them are the *right edge*, and the rows below them the
+//! *bottom edge*. The *corner* lies both below and to the right. These three are copied plainly: column after column,
+//! with one put for each item.
 
 use crate::kernels::places::{Cells, SliceSource, Source, Writes};
 use crate::kernels::transpose::tile::{TILE_SIDE, Tiles, place_in, put_tile};
@@ -48,8 +48,8 @@ pub struct Region {
 }
 
 impl Region {
-    /// Whether the region lies in a matrix of `height` rows of `width` items: `row_start <= row_end
-    /// <= height` and `col_start <= col_end <= width`.
+    /// Whether the region lies in a matrix of `height` rows of `width` items: `row_start <= row_end <= height` and
+    /// `col_start <= col_end <= width`.
     ///
     /// This tests the precondition that the calls on a region have in common.
     #[inline]
@@ -85,24 +85,24 @@ impl Region {
         Region { col_start: start, col_end: end, ..self }
     }
 
-    /// Cuts the region above row `middle` of the matrix. Returns the upper part, which ends before
-    /// that row, and the lower part, which begins with it.
+    /// Cuts the region above row `middle` of the matrix. Returns the upper part, which ends before that row, and the
+    /// lower part, which begins with it.
     #[inline(always)]
     pub(crate) fn cut_rows(self, middle: usize) -> (Region, Region) {
         let upper = self.with_rows(self.row_start, middle);
         (upper, self.with_rows(middle, self.row_end))
     }
 
-    /// Cuts the region to the left of column `middle` of the matrix. Returns the left part, which
-    /// ends before that column, and the right part, which begins with it.
+    /// Cuts the region to the left of column `middle` of the matrix. Returns the left part, which ends before that
+    /// column, and the right part, which begins with it.
     #[inline(always)]
     pub(crate) fn cut_cols(self, middle: usize) -> (Region, Region) {
         let left = self.with_cols(self.col_start, middle);
         (left, self.with_cols(middle, self.col_end))
     }
 
-    /// Returns the same region. If the caller passes constants, the compiler then knows how many
-    /// rows and columns the region has.
+    /// Returns the same region. If the caller passes constants, the compiler then knows how many rows and columns the
+    /// region has.
     #[inline(always)]
     pub(crate) fn with_known_sides(self, rows: usize, cols: usize) -> Region {
         Region {
@@ -116,11 +116,10 @@ impl Region {
 
 /// Writes the transpose of `region` to `out`, with one write for each item.
 ///
-/// The region is a part of `input`, a matrix of `height` rows of `width` items. For each row y and
-/// column x of the region, the item at `y * width + x` of `input` is written to cell `x * height +
-/// y`. All other cells keep their items. Both lengths must be `width * height`, which
-/// [`fits_matrix`](crate::kernels::transpose::fits_matrix) checks. The region must lie in the matrix, which
-/// [`Region::fits`] checks.
+/// The region is a part of `input`, a matrix of `height` rows of `width` items. For each row y and column x of the
+/// region, the item at `y * width + x` of `input` is written to cell `x * height + y`. All other cells keep their
+/// items. Both lengths must be `width * height`, which [`fits_matrix`](crate::kernels::transpose::fits_matrix) checks. The
+/// region must lie in the matrix, which [`Region::fits`] checks.
 pub fn transpose_region_on<C: Cells>(
     input: &[C::Item],
     out: &mut Writes<C>,

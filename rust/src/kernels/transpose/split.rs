@@ -12,24 +12,21 @@ use crate::width::Index as usize;
 /// A part is a leaf if neither of its sides is greater than this.
 const LEAF_SIDE: usize = 128;
 
-/// A part is also a leaf if one of its sides is not greater than this, however long the other side
-/// is.
+/// A part is also a leaf if one of its sides is not greater than this, however long the other side is.
 const NARROW_SIDE: usize = 2;
 
-/// Writes the transpose of `region` to `out`, as
-/// [`transpose_region_on`](crate::kernels::transpose::transpose_region_on) does, but splits the region
-/// first.
+/// Writes the transpose of `region` to `out`, as [`transpose_region_on`](crate::kernels::transpose::transpose_region_on) does,
+/// but splits the region first.
 ///
 /// Returns how deep the splits nest, which is at most 57.
 ///
-/// There is no split if both sides of the region are at most 128 or one of them is at most 2.
-/// Otherwise the longer side is halved. If both sides are equal, the rows are halved. If the length
-/// of the side is odd, the first half is the shorter one. Each half is then split and written in the
-/// same way. In each tile of 16 by 16 items, the 16 items of a column are written one right after
-/// the other. The contract does not promise this order, but it is tested.
+/// There is no split if both sides of the region are at most 128 or one of them is at most 2. Otherwise the longer side
+/// is halved. If both sides are equal, the rows are halved. If the length of the side is odd, the first half is the
+/// shorter one. Each half is then split and written in the same way. In each tile of 16 by 16 items, the 16 items of a
+/// column are written one right after the other. The contract does not promise this order, but it is tested.
 ///
-/// `levels` limits how deep the splits may nest, and must be enough for the region. 64 levels are
-/// enough for every region of a matrix. The other preconditions are those of
+/// `levels` limits how deep the splits may nest, and must be enough for the region. 64 levels are enough for every
+/// region of a matrix. The other preconditions are those of
 /// [`transpose_region_on`](crate::kernels::transpose::transpose_region_on).
 pub fn transpose_split_on<C: Cells>(
     input: &[C::Item],
@@ -42,8 +39,8 @@ pub fn transpose_split_on<C: Cells>(
     transpose_source_split_on(&SliceSource::new(input), out, region, width, height, levels)
 }
 
-/// Writes the transpose of a region of any source to `out`, as [`transpose_split_on`] does for a
-/// slice. The preconditions are the same.
+/// Writes the transpose of a region of any source to `out`, as [`transpose_split_on`] does for a slice. The
+/// preconditions are the same.
 pub fn transpose_source_split_on<R, C>(
     input: &R,
     out: &mut Writes<C>,
@@ -73,8 +70,8 @@ pub(crate) fn is_leaf(region: Region) -> bool {
     rows.min(cols) <= NARROW_SIDE || rows.max(cols) <= LEAF_SIDE
 }
 
-/// Halves the longer side of `region`, and the rows if both sides are equal. The length of the
-/// first half is rounded down.
+/// Halves the longer side of `region`, and the rows if both sides are equal. The length of the first half is rounded
+/// down.
 pub(crate) fn cut_in_half(region: Region) -> (Region, Region) {
     let (rows, cols) = (region.rows(), region.cols());
     if rows >= cols {

@@ -1,9 +1,8 @@
 // rust/erase writes this file from crates/p3_util_kernels/src/transpose/tile.rt. Make changes there.
-//! A tile of 16 by 16 items, which is 16 blocks of 4 by 4 items. Each block is transposed by
-//! [`butterfly_4x4`].
+//! A tile of 16 by 16 items, which is 16 blocks of 4 by 4 items. Each block is transposed by [`butterfly_4x4`].
 //!
-//! A *direct* tile puts each block straight into the output. A *buffered* tile collects its blocks
-//! in an array of 256 items, and then puts the 16 runs of 16 items that this array has.
+//! A *direct* tile puts each block straight into the output. A *buffered* tile collects its blocks in an array of 256
+//! items, and then puts the 16 runs of 16 items that this array has.
 
 use crate::kernels::places::{Cells, SliceCells, Source, Writes, len_fits};
 use crate::kernels::transpose::butterfly::butterfly_4x4;
@@ -42,8 +41,7 @@ where
     }
 }
 
-/// Whether 256 items like this one fit in an array. No item of a real program is so long that they
-/// do not.
+/// Whether 256 items like this one fit in an array. No item of a real program is so long that they do not.
 pub(crate) fn fits_tile<T>(item: &T) -> bool {
     (size_of_val(item) as usize) < 1 << 32
 }
