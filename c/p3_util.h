@@ -15,7 +15,8 @@
  * - vals can be read and written, input can be read, and output can be written. During the call nothing else writes to
  *   any of them, and nothing else reads vals or output.
  * - input and output do not overlap.
- * - exponent and reversed each point to one size_t that can be read and written.
+ * - exponent and reversed each point to one size_t that can be read and written, and that nothing else reads or writes
+ *   during the call.
  */
 #ifndef P3_UTIL_H
 #define P3_UTIL_H
@@ -117,8 +118,8 @@ P3_UTIL_CHECK bool p3_util_reverse_bits_len(size_t x, size_t bit_len, size_t *re
 #endif
 
 /*
- * Returns the number of the interface, which is also in the function's name. Code that includes this header refers to
- * the function, so it does not link with a library of another version.
+ * Returns the number of the interface, which is also in the function's name. If the compiler has __has_attribute, as GCC 5
+ * and clang do, code that includes this header refers to the function, so it does not link with a library of another version.
  */
 size_t p3_util_c_interface_3_library_and_bindings_are_of_one_version(void);
 #ifdef P3_UTIL_KEEP
