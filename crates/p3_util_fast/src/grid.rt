@@ -289,19 +289,26 @@ fn exchange_on_diagonal<M: Tiled>(m: M, grid: Grid, start: usize, size: usize) -
     m
 }
 
-/// Does the same as [`exchange_on_diagonal`], for a tile of single items.
+/// Does the same as [`exchange_on_diagonal`], for a tile.
 #[inline(always)]
 fn exchange_diagonal_tile<M: Tiled>(m: M, grid: Grid, start: usize) -> M
-    requires one { grid.width ≡ 1 }
     requires whole { start % 8 ≡ 0 }
     requires within { start + 8 ≤ 2 ^ grid.digits }
     requires ready { HoldsGrid grid (M.items m) }
     ensures exchanged { SwapsInGrid grid (square_at start 8) (M.items m) (M.items result) }
-    ensures holder { M.same_holder (square_swaps 8) m result }
+    ensures holder { M.same_holder (grid.width * square_swaps 8) m result }
 {
     let places = grid.tile_rows(grid.start(start) + start);
     let mut m = m;
-    m.turn_tile(places);
+    if grid.width == 1 {
+        m.turn_tile(places);
+        return m;
+    }
+    for row in 0..TILE {
+        for col in row + 1..TILE {
+            m = exchange_places(m, grid.width, places[row] + col, places[col] + row);
+        }
+    }
     m
 }
 
@@ -314,7 +321,7 @@ pub fn exchange_quadrants<M: Tiled>(m: M, grid: Grid, start: usize, size: usize)
     ensures exchanged { SwapsInGrid grid (square_at start size) (M.items m) (M.items result) }
     ensures holder { M.same_holder (grid.width * square_swaps size) m result }
 {
-    if grid.width == 1 && size == TILE && start % TILE == 0 {
+    if size == TILE && start % TILE == 0 {
         return exchange_diagonal_tile(m, grid, start);
     }
     if size <= TILE {

@@ -175,19 +175,32 @@ fn exchange_on_diagonal<M: Tiled>(m: M, grid: Grid, start: usize, size: usize) -
     m
 }
 
-/// Does the same as [`exchange_on_diagonal`], for a tile of single items.
+/// Does the same as [`exchange_on_diagonal`], for a tile.
 #[inline(always)]
 fn exchange_diagonal_tile<M: Tiled>(m: M, grid: Grid, start: usize) -> M {
     let places = grid.tile_rows(grid.start(start) + start);
     let mut m = m;
-    m.turn_tile(places);
+    if grid.width == 1 {
+        m.turn_tile(places);
+        return m;
+    }
+    for row in 0..TILE {
+        for col in row + 1..TILE {
+            m = exchange_places(
+                m,
+                grid.width,
+                places[row as core::primitive::usize] + col,
+                places[col as core::primitive::usize] + row,
+            );
+        }
+    }
     m
 }
 
 /// Does the same as [`exchange_on_diagonal`], by quadrants. The calls nest at most as deep as `size` can be halved
 /// until it is at most 8. The proof that the calls end counts these levels.
 pub(crate) fn exchange_quadrants<M: Tiled>(m: M, grid: Grid, start: usize, size: usize) -> M {
-    if grid.width == 1 && size == TILE && start % TILE == 0 {
+    if size == TILE && start % TILE == 0 {
         return exchange_diagonal_tile(m, grid, start);
     }
     if size <= TILE {

@@ -78,7 +78,17 @@ module _ {A : Type 0} (grid : Grid) (items : List A) (holds : HoldsGrid grid ite
         → SwapsInGrid grid (record { row_start = a; row_end = a + 1; col_start = b; col_end = b + 1 }) xs ys
     SwapsInGrid-pair a b xs ys less below pair = record {
       same_length = pair.same_length;
-      crossed = λ t c d h. grind (arith, h, pair.first t h.0.0, pair.second t h.0.0);
+      crossed = λ t c d h.
+          elim (cases_lt c d) [
+            | inl up ↦
+                let row : c ≡ a = omega (arith, h.1.row_from, h.1.row_to) in
+                let col : d ≡ b = omega (arith, h.1.col_from, h.1.col_to) in
+                rw (row, col) (pair.first t h.0.0)
+            | inr down ↦
+                let row : d ≡ a = omega (arith, h.1.row_from, h.1.row_to) in
+                let col : c ≡ b = omega (arith, h.1.col_from, h.1.col_to) in
+                rw (row, col) (pair.second t h.0.0)
+          ];
       others = λ k out.
           pair.others k
           (outside k _ grid.width (λ t ht. out t a b ((ht, omega arith, below), grind arith)))
