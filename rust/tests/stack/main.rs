@@ -22,6 +22,7 @@ const fn stack_for(size: usize, items: usize) -> usize {
     match size {
         ..=64 if RELEASE => LEAST,
         _ if RELEASE => LEAST + items * size,
+        ..=128 if cfg!(all(debug_assertions, feature = "checked")) => 128 << 10,
         ..=64 if cfg!(debug_assertions) => 112 << 10,
         ..=64 => 264 << 10,
         _ => LEAST + 3 * size,
