@@ -53,7 +53,8 @@ pub const fn log3_strict_usize(n: usize) -> usize {
 ///
 /// # Panics
 ///
-/// With debug assertions, if `n` is not a power of two. Without them, the lowest set digit of `n` is used.
+/// With debug assertions, if `n` is not a power of two. Without them, the lowest set digit of `n` is used, and an `n` of 0
+/// reverses all digits.
 #[inline(always)]
 #[track_caller]
 pub const fn reverse_bits(x: usize, n: usize) -> usize {
@@ -69,7 +70,7 @@ pub const fn reverse_bits(x: usize, n: usize) -> usize {
 ///
 /// # Panics
 ///
-/// With debug assertions, if `bit_len` is above `usize::BITS`. Without them, the remainder by that is used.
+/// With debug assertions or overflow checks, if `bit_len` is above `usize::BITS`. Without both, the remainder by that is used.
 #[inline(always)]
 #[track_caller]
 pub const fn reverse_bits_len(x: usize, bit_len: usize) -> usize {

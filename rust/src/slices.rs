@@ -2,10 +2,10 @@
 //! Nothing outside this folder can make a holder.
 //!
 //! It is proved that a kernel whose own precondition holds meets the preconditions of the steps of every holder. So
-//! `holders.rs` and its folder, which have all the unsafe code, check no index. With the feature `checked`, the holders of
-//! `checked.rs` are used instead, which check each one. Proved code chooses how a matrix is put, in `kernels/calls.rs`.
-//! `instances.rs` has an instance of the kernels for each usual size of an item. With `checked` and on 32 bits, `by_type.rs` is
-//! used instead, which has none.
+//! `holders.rs` and its folder, which have all the unsafe code, check no index without debug assertions. With the feature
+//! `checked`, the holders of `checked.rs` are used instead, which check each one. Proved code chooses how a matrix is put, in
+//! `kernels/calls.rs`. `instances.rs` has an instance of the kernels for each usual size of an item. With `checked` and on 32
+//! bits, `by_type.rs` is used instead, which has none.
 //!
 //! With the feature `parallel`, `parallel.rs` runs long calls in parts. Otherwise `threads.rs` says that no call is cut.
 //!

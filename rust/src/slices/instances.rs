@@ -111,8 +111,8 @@ pub(super) fn transpose_part<T: Copy>(cells: SliceItems<T>, source: SliceSource<
     }
 }
 
-/// How many bytes a place has in a reversal of rows of `row` bytes each, of items of `size` bytes. If there is an instance for this
-/// size, a row is a place. Otherwise an item is one if a row has only this item and the item is not long. All other rows are runs
+/// How many bytes a place has in a reversal of rows of `row` bytes each, of items of `size` bytes. If there is an instance for
+/// `row` bytes, a row is a place. Otherwise an item is one if a row has only this item and the item is not long. All other rows are runs
 /// of bytes. If items are not taken as bytes, each is a place.
 pub(super) fn bytes_of_place(size: usize, row: usize) -> usize {
     if by_size!(row) {

@@ -17,12 +17,12 @@ pub(super) fn transpose<T: Copy + Send + Sync>(input: &[T], output: &mut [T], wi
     input.len() >= 1 << 18 && run_all(TransposePart::run, |threads| transposes(input, output, shape, threads))
 }
 
-/// Eight parts for each thread, since some have half as many pairs as the others.
+/// Asks for eight parts for each thread, since some have half as many pairs as the others.
 fn reversal<F: Send>(vals: &mut [F], row_width: usize, threads: usize) -> ReversalParts<'_, F> {
     parts::row_reversal(vals, row_width, threads.saturating_mul(8))
 }
 
-/// Four parts for each thread.
+/// At most four parts for each thread.
 fn transposes<'a, T: Copy + Send + Sync>(
     input: &'a [T],
     output: &'a mut [T],

@@ -63,8 +63,8 @@ pub struct ReversalParts<'a, F>(PartsToRun<SliceItems<'a, F>, ReversalPlan, usiz
 #[must_use = "a part that is not run leaves the list neither as it was nor reversed"]
 pub struct ReversalPart<'a, F>(PartToRun<SliceItems<'a, F>, ReversalPlan, usize>);
 
-/// The plan for a list of `len` items of `size` bytes, in places of so many bytes as this build has instances for. A user's crate
-/// has no code of it, since it is not generic.
+/// The plan for a list of `len` items of `size` bytes, and how many bytes a place has. A user's crate has no code of it,
+/// since it is not generic.
 fn plan_of(len: usize, size: usize, row_width: usize, ranges: Option<usize>) -> (usize, ReversalPlan) {
     let place = instances::bytes_of_place(size, row_width.wrapping_mul(size));
     ReversalPlan::in_places(len, size, row_width, place, ranges)
@@ -113,9 +113,9 @@ pub fn transpose<'a, T: Copy + Send + Sync>(
 ///
 /// A list of up to [`one_part_reversal`] items is one part, and one that is empty, or whose items have no bytes, has none.
 /// A longer one, of 2^k items, is cut like a square of 2^(k / 2) rows and columns, or like two squares if k is odd. Each side
-/// is cut into at most P ranges, and each patch of a square on or above its diagonal is a part. These are P(P + 1) / 2 parts
-/// for each square, and fewer if its sides are too short. P is 1 + ⌊2√(N − 1)⌋, where N is half the parts that you ask
-/// for, divided among the squares, and at least 1:
+/// is cut into at most P ranges, and each patch of a square on or above its diagonal is a part. P ranges make P(P + 1) / 2
+/// parts for each square. There may be fewer ranges, since all but the last have one length, a multiple of 8 items. P is 1 +
+/// ⌊2√(N − 1)⌋, where N is half the parts that you ask for, divided among the squares, rounded down, and at least 1:
 ///
 /// ```
 /// # if cfg!(not(feature = "checked")) {
@@ -137,7 +137,8 @@ pub fn reversal<F: Send>(vals: &mut [F], parts: usize) -> ReversalParts<'_, F> {
     row_reversal(vals, 1, parts)
 }
 
-/// Cuts [`reverse_slice_row_index_bits`](crate::reverse_slice_row_index_bits) into parts, as [`reversal`] does.
+/// Cuts [`reverse_slice_row_index_bits`](crate::reverse_slice_row_index_bits) into parts, as [`reversal`] does, with 2^k rows
+/// for items. Only where a row is moved as one item are ranges multiples of 8. [`one_part_reversal`] counts items.
 ///
 /// # Panics
 ///
