@@ -5,6 +5,7 @@ use Rattle.std.proofs.lemmas.Nat.{mul-add-lt}
 use Rattle.p3_util_kernels.specs.declared.transpose.region.Region.{Region}
 use Rattle.p3_util_fast.specs.Columns.{HoldsColumn, IsColumnPut}
 use Rattle.p3_util_kernels.specs.Region.{IsReady, IsRegionTransposed, rows_of}
+use Rattle.p3_util_kernels.proofs.TransposeLemmas.Tiles.{region_of_column}
 
 module _ {A : Type 0} (width : ℕ) (input : List A) where
   -- some items of a column, and then more of them
@@ -23,11 +24,7 @@ module _ {A : Type 0} (width : ℕ) (input : List A) where
               let here : from + rows * width + (t - rows) * width ≡ from + t * width = omega (arith, ap (λ n. n * width) whole) in
               rw (there, here) at (second.places (t - rows) (omega arith))
         ];
-    others = λ p out.
-        elim out [
-          | inl before ↦ second.others p (inl (omega arith)) ∙ first.others p (inl before)
-          | inr after ↦ second.others p (inr (omega arith)) ∙ first.others p (inr (omega arith))
-        ];
+    others = λ p out. grind (arith, out, first.others p, second.others p);
   }
 
 -- the preconditions for all items of a column include those for some of them
@@ -58,13 +55,6 @@ module _ {A : Type 0} (region : Region) (width height col : ℕ) (input : List A
   pub IsRegionTransposed-column : (old new : List A) → region.row_start ≤ region.row_end
       → IsColumnPut (rows_of region) (region.row_start * width + col) width (col * height + region.row_start) input old new
       → IsRegionTransposed (record region { col_start = col; col_end = col + 1 }) width height input old new
-  IsRegionTransposed-column old new order s = record {
-    same_length = s.same_length;
-    places = λ x y h.
-        let ex : x ≡ col = omega (arith, h.col_from, h.col_to) in
-        let row : region.row_start + (y - region.row_start) ≡ y = omega (arith, h.row_from) in
-        let there : col * height + region.row_start + (y - region.row_start) ≡ col * height + y = omega (arith, row) in
-        let here : region.row_start * width + col + (y - region.row_start) * width ≡ y * width + col = omega (arith, ap (λ n. n * width) row) in
-        rw ex (rw (there, here) at (s.places (y - region.row_start) (omega (arith, h.row_from, h.row_to))));
-    others = λ p out. s.others p (grind (arith, out col (p - col * height)));
-  }
+  IsRegionTransposed-column old new order s =
+      region_of_column region width height col (rows_of region) input old new (omega arith) s.same_length
+      (λ t h. let here : region.row_start * width + col + t * width ≡ (region.row_start + t) * width + col = omega arith in rw here at (s.places t h)) s.others

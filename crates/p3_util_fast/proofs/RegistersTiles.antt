@@ -4,9 +4,8 @@ use Rattle.std.proofs.Math.Nat.{mod-le}
 use Rattle.std.proofs.lemmas.Bool.{cases_eq, cases_lt}
 use Rattle.p3_util_fast.specs.Tiles.{AreTiles, IsTile, TileTurned, TilesExchanged}
 use Rattle.p3_util_fast.specs.Registers.{AreDisjoint, AreColumns, AreReached, AreStored, IsSide, RowsExchanged, RowsReached, SquaresTurned, sum_of}
-use Rattle.p3_util_fast.proofs.BulkLemmas.Tiles.{one_row, places-apart}
+use Rattle.p3_util_fast.proofs.BulkLemmas.Tiles.{IsItem, ItemsExchanged-joined, ItemsExchanged-same, one_tile, other_places, places-apart}
 use Rattle.p3_util_fast.proofs.GridLemmas.Crossing.{outside}
-use Rattle.p3_util_fast.proofs.RegistersSquares.{other_places}
 
 pub side_most : (side : ℕ) → IsSide side → side ≤ 8
 side_most side is = grind (arith, is)
@@ -114,50 +113,30 @@ module _ (x y : List ℕ) (len : ℕ) (tiles : AreTiles x y len) where
       let moved = SquaresMoved-rows 8 side (inr refl) is small (λ s. row) x tops in_x (λ c h. below) is_top at_x y in_y to_x old mid new at_y of_y two in
       record {
         same_length = moved.same_length ∙ one.same_length;
-        first = λ r c h k l. moved.places r c l h k;
-        second = λ r c h k l.
-            let (inside, (row_in, start)) = placed 8 side (inr refl) is small (λ s. row) x tops in_x (λ c h. below) is_top at_x r c l h k in
+        first = λ r c hr l h. moved.places r c l h.0 h.1;
+        second = λ r c hr l h.
+            let (inside, (row_in, start)) = placed 8 side (inr refl) is small (λ s. row) x tops in_x (λ c h. below) is_top at_x r c l h.0 h.1 in
             let to_is : slice_index in_y c + (r - row) ≡ slice_index y c + r = omega (arith, at_y c l, is_top c l) in
             let from_is : slice_index in_x (c - c % side + (r - row)) + c % side ≡ slice_index x r + c = omega (arith, start, mod-le c side) in
             moved.others (slice_index y c + r) (λ v w hw i j e. places-apart x y len tiles v w c r (omega arith) hw l (omega arith) (sym e))
             ∙ rw to_is at (one.rows c (r - row) l (omega arith)) ∙ rw from_is at (of_x c (r - row) l (omega arith));
         others = λ p out.
-            moved.others p (λ r c h k l. (out r c k l h).0)
+            moved.others p (λ r c h k l. (out r c (omega arith) h (k, l)).0)
             ∙ one.others p (λ j m.
             let on = at_y j m in
             let top = is_top j m in
-            outside p (slice_index in_y j) side (λ t within e. (out (row + t) j (omega arith) (omega arith) m).1 (omega arith)));
+            outside p (slice_index in_y j) side (λ t within e. (out (row + t) j (omega arith) m (omega arith, omega arith)).1 (omega arith)));
       }
 
   -- some rows are exchanged, and then those that follow them
-  pub RowsExchanged-joined : {A : Type 0} (a b d : ℕ) (old mid new : List A) → a ≤ b → b ≤ d → d ≤ 8 → RowsExchanged a b x y old mid → RowsExchanged b d x y mid new → RowsExchanged a d x y old new
-  RowsExchanged-joined a b d old mid new up more most one two =
-      let after : (r c : ℕ) → r < b → c < 8 → (v w : ℕ) → b ≤ v → v < d → w < 8 → _ = λ r c h k v w i j m. other_places x y len tiles r c v w (omega arith) k (omega arith) m (inl (λ e. omega arith)) in
-      let before : (r c : ℕ) → b ≤ r → r < d → c < 8 → (v w : ℕ) → a ≤ v → v < b → w < 8 → _ = λ r c h l k v w i j m. other_places x y len tiles r c v w (omega arith) k (omega arith) m (inl (λ e. omega arith)) in
-      record {
-        same_length = two.same_length ∙ one.same_length;
-        first = λ r c h k l.
-            elim (cases_lt r b) [
-              | inl early ↦ two.others _ (λ v w i j m. (after r c early l v w i j m).0) ∙ one.first r c h early l
-              | inr late ↦ two.first r c late k l ∙ one.others _ (λ v w i j m. (before r c late k l v w i j m).1)
-            ];
-        second = λ r c h k l.
-            elim (cases_lt r b) [
-              | inl early ↦ two.others _ (λ v w i j m. (after r c early l v w i j m).1) ∙ one.second r c h early l
-              | inr late ↦ two.second r c late k l ∙ one.others _ (λ v w i j m. (before r c late k l v w i j m).0)
-            ];
-        others = λ p out.
-            two.others p (λ r c h k l. out r c (omega arith) k l) ∙ one.others p (λ r c h k l. out r c h (omega arith) l);
-      }
+  pub RowsExchanged-joined : {A : Type 0} (a b d : ℕ) (old mid new : List A) → a ≤ b → b ≤ d → RowsExchanged a b x y old mid → RowsExchanged b d x y mid new → RowsExchanged a d x y old new
+  RowsExchanged-joined a b d old mid new up more =
+      ItemsExchanged-joined x y _ (other_places x y len tiles) _ _ _ old mid new (λ r c v w hr hc hv hw h k e. omega (arith, h, k, e))
+      (λ r c hr hc h. elim (cases_lt r b) [ inl early ↦ inl (h.0, early) | inr late ↦ inr (late, h.1) ]) (λ r c hr hc h. (h.0, omega (arith, h))) (λ r c hr hc h. (omega (arith, h), h.1))
 
-  -- all rows are exchanged
-  pub TilesExchanged-rows : {A : Type 0} (old new : List A) → RowsExchanged 0 8 x y old new → TilesExchanged 64 x y old new
-  TilesExchanged-rows old new all = record {
-    same_length = all.same_length;
-    first = λ r c h k. all.first r c (omega arith) (omega arith) h;
-    second = λ r c h k. all.second r c (omega arith) (omega arith) h;
-    others = λ p out. all.others p (λ r c h k l. out r c l (omega arith));
-  }
+-- all rows are exchanged
+pub TilesExchanged-rows : {A : Type 0} (x y : List ℕ) (old new : List A) → RowsExchanged 0 8 x y old new → TilesExchanged 64 x y old new
+TilesExchanged-rows x y old new = ItemsExchanged-same x y _ _ old new (λ r c hr hc h. (omega arith, hr)) (λ r c hr hc h. omega arith)
 
 -- the first row of the square that is exchanged with the square that begins in column q, if their sum is s
 abbrev pub opposite : ℕ → ℕ → ℕ
@@ -173,6 +152,9 @@ opposite_row side is s r c hr hc hs e h k = grind (arith, is)
 opposite_sum : (side : ℕ) → IsSide side → (s r c : ℕ) → c < 8 → s < 8 → s % side ≡ 0 → opposite s (c - c % side) ≤ r → r < opposite s (c - c % side) + side → sum_of side r c ≡ s
 opposite_sum side is s r c hc hs e h k = grind (arith, is)
 
+sum_turned : (side r c : ℕ) → sum_of side r c ≡ sum_of side c r
+sum_turned side r c = ap (λ n. n % 8) (omega arith)
+
 module _ (x : List ℕ) (len : ℕ) (tile : IsTile x len) where
   -- the squares of one sum are read, and each is written over its mirror image
   pub SquaresTurned-step : {A : Type 0} (side s : ℕ) (tops from to : List ℕ) (columns : List (List A)) (old new : List A) → IsSide side → side ≤ 8 → s < 8 → s % side ≡ 0
@@ -181,44 +163,30 @@ module _ (x : List ℕ) (len : ℕ) (tile : IsTile x len) where
       → AreColumns side from old columns → AreStored 8 side to columns old new → SquaresTurned s (s + side) side x old new
   SquaresTurned-step side s tops from to columns old new is small below whole is_top at_from at of step =
       let moved = SquaresMoved-rows 8 side (inr refl) is small (opposite s) x tops to (λ c h. opposite_up side is s c below whole) is_top at x from columns old old new at_from of step in
+      let turned : (r c : ℕ) → r < 8 → c < 8 → (s ≤ sum_of side r c) × (sum_of side r c < s + side) → slice_get new (slice_index x r + c) ≡ slice_get old (slice_index x c + r) =
+      λ r c hr hc h.
+      let mirror = opposite_row side is s r c hr hc below whole h.0 h.1 in
+      moved.places r c hc (omega (arith, mirror)) (omega (arith, mirror, row_below side is r)) in
       record {
         same_length = moved.same_length;
-        turned = λ r c hr hc h k.
-            let mirror = opposite_row side is s r c hr hc below whole h k in
-            moved.places r c hc (omega (arith, mirror)) (omega (arith, mirror, row_below side is r));
+        first = λ r c hr hc h. turned r c hr hc h.1;
+        second = λ r c hr hc h. turned c r hc hr (rw (sum_turned side r c) at h.1);
         others = λ p out.
             moved.others p (λ r c hc h k.
             let sum = opposite_sum side is s r c hc below whole h k in
-            out r c (omega (arith, opposite_up side is s c below whole)) hc (omega arith) (omega (arith, row_below side is c)));
+            let row : r < 8 = omega (arith, opposite_up side is s c below whole) in
+            let sums : (s ≤ sum_of side r c) × (sum_of side r c < s + side) = (omega arith, omega (arith, row_below side is c)) in
+            elim (cases_lt c r) [ inl low ↦ (out c r hc row (omega arith, rw (sum_turned side c r) sums)).1 | inr high ↦ (out r c row hc (high, sums)).0 ]);
       }
 
   -- the squares of some sums are turned, and then those of the sums that follow
   pub SquaresTurned-joined : {A : Type 0} (side a b d : ℕ) (old mid new : List A) → a ≤ b → b ≤ d → SquaresTurned a b side x old mid → SquaresTurned b d side x mid new → SquaresTurned a d side x old new
-  SquaresTurned-joined side a b d old mid new up more one two = record {
-    same_length = two.same_length ∙ one.same_length;
-    turned = λ r c hr hc h k.
-        elim (cases_lt (sum_of side r c) b) [
-          | inl early ↦
-              two.others (slice_index x r + c) (λ v w hv hw i j e.
-              let at = one_row x r c v w tile.apart hr hc hv hw e in
-              let same : sum_of side r c ≡ sum_of side v w = rw (at.0, at.1) refl in
-              omega arith)
-              ∙ one.turned r c hr hc h early
-          | inr late ↦
-              two.turned r c hr hc late k
-              ∙ one.others (slice_index x c + r) (λ v w hv hw i j e.
-              let at = one_row x c r v w tile.apart hc hr hv hw e in
-              let same : sum_of side c r ≡ sum_of side v w = rw (at.0, at.1) refl in
-              let turn : sum_of side c r ≡ sum_of side r c = ap (λ n. n % 8) (omega arith) in
-              omega arith)
-        ];
-    others = λ p out. two.others p (λ r c hr hc h k. out r c hr hc (omega arith) k) ∙ one.others p (λ r c hr hc h k. out r c hr hc h (omega arith));
-  }
+  SquaresTurned-joined side a b d old mid new up more =
+      let other : (r c v w : ℕ) → sum_of side r c < b → b ≤ sum_of side v w → IsItem r c v w → ⊥ = λ r c v w h k e. omega (arith, rw (e.0, e.1) at k) in
+      ItemsExchanged-joined x x _ (one_tile x len tile) _ _ _ old mid new (λ r c v w hr hc hv hw h k. (other r c v w h.1.1 k.1.0, other c r v w (rw (sum_turned side c r) h.1.1) k.1.0))
+      (λ r c hr hc h. elim (cases_lt (sum_of side r c) b) [ inl early ↦ inl (h.0, (h.1.0, early)) | inr late ↦ inr (h.0, (late, h.1.1)) ])
+      (λ r c hr hc h. (h.0, (h.1.0, omega (arith, h)))) (λ r c hr hc h. (h.0, (omega (arith, h), h.1.1)))
 
-  -- all squares are turned
-  pub TileTurned-squares : {A : Type 0} (side : ℕ) (old new : List A) → SquaresTurned 0 8 side x old new → TileTurned 64 x old new
-  TileTurned-squares side old new all = record {
-    same_length = all.same_length;
-    turned = λ r c hr hc h. all.turned r c hr hc (omega arith) (omega arith);
-    others = λ p out. all.others p (λ r c hr hc h k. out r c hr hc (omega arith));
-  }
+-- all squares are turned
+pub TileTurned-squares : {A : Type 0} (x : List ℕ) (side : ℕ) (old new : List A) → SquaresTurned 0 8 side x old new → TileTurned 64 x old new
+TileTurned-squares x side old new = ItemsExchanged-same x x _ _ old new (λ r c hr hc h. (h.0, (omega arith, omega arith))) (λ r c hr hc h. (h.0, omega arith))

@@ -62,13 +62,18 @@ pub record IsRunStored {A : Type 0} (count i : ℕ) (items old new : List A) : T
   pub run : (t : ℕ) → t < count → slice_get new (i + t) ≡ slice_get items t
   pub others : (p : ℕ) → (p < i) ⊎ (i + count ≤ p) → slice_get new p ≡ slice_get old p
 
+-- Some items of the tile at `x` are exchanged with their mirror images in the tile at `y`: row r and column c of one
+-- tile with row c and column r of the other. All other items stay where they are.
+pub record ItemsExchanged {A : Type 0} (some : ℕ → ℕ → Type 0) (x y : List ℕ) (old new : List A) : Type 0 where
+  pub same_length : length new ≡ length old
+  pub first : (r c : ℕ) → r < 8 → c < 8 → some r c → slice_get new (slice_index x r + c) ≡ slice_get old (slice_index y c + r)
+  pub second : (r c : ℕ) → r < 8 → c < 8 → some r c → slice_get new (slice_index y c + r) ≡ slice_get old (slice_index x r + c)
+  pub others : (p : ℕ) → ((r c : ℕ) → r < 8 → c < 8 → some r c → (p ≢ slice_index x r + c) × (p ≢ slice_index y c + r)) → slice_get new p ≡ slice_get old p
+
 -- The items in the rows of the tile at `x` from row `from` on and before row `to` are exchanged with
 -- their mirror images in the tile at `y`. All other items stay where they are
-pub record RowsExchanged {A : Type 0} (from to : ℕ) (x y : List ℕ) (old new : List A) : Type 0 where
-  pub same_length : length new ≡ length old
-  pub first : (r c : ℕ) → from ≤ r → r < to → c < 8 → slice_get new (slice_index x r + c) ≡ slice_get old (slice_index y c + r)
-  pub second : (r c : ℕ) → from ≤ r → r < to → c < 8 → slice_get new (slice_index y c + r) ≡ slice_get old (slice_index x r + c)
-  pub others : (p : ℕ) → ((r c : ℕ) → from ≤ r → r < to → c < 8 → (p ≢ slice_index x r + c) × (p ≢ slice_index y c + r)) → slice_get new p ≡ slice_get old p
+abbrev pub RowsExchanged : {A : Type 0} → ℕ → ℕ → List ℕ → List ℕ → List A → List A → Type 0
+RowsExchanged from to = ItemsExchanged (λ r c. (from ≤ r) × (r < to))
 
 -- A tile consists of squares of `side` rows. This is the first row of the square of row r and column
 -- c, and its first column, added modulo 8
@@ -77,10 +82,8 @@ sum_of side r c = (r - r % side + (c - c % side)) % 8
 
 -- The squares of the tile at `x` with a sum from `from` on and less than `to` are transposed, each
 -- into the place of its mirror image. All other items stay where they are
-pub record SquaresTurned {A : Type 0} (from to side : ℕ) (x : List ℕ) (old new : List A) : Type 0 where
-  pub same_length : length new ≡ length old
-  pub turned : (r c : ℕ) → r < 8 → c < 8 → from ≤ sum_of side r c → sum_of side r c < to → slice_get new (slice_index x r + c) ≡ slice_get old (slice_index x c + r)
-  pub others : (p : ℕ) → ((r c : ℕ) → r < 8 → c < 8 → from ≤ sum_of side r c → sum_of side r c < to → p ≢ slice_index x r + c) → slice_get new p ≡ slice_get old p
+abbrev pub SquaresTurned : {A : Type 0} → ℕ → ℕ → ℕ → List ℕ → List A → List A → Type 0
+SquaresTurned from to side x = ItemsExchanged (λ r c. (r ≤ c) × ((from ≤ sum_of side r c) × (sum_of side r c < to))) x x
 
 -- The columns of a block from column `from` on and before column `to` are put where the transpose of
 -- the block has them. Every other cell holds what it held before
@@ -94,10 +97,3 @@ pub record ColumnsPut {A : Type 0} (from to : ℕ) (block : Block) (input old ne
 -- modulo 4
 abbrev pub IsSquareOf : (row col n : ℕ) → ℕ → ℕ → Type 0
 IsSquareOf row col n r c = (row ≤ r) × ((col ≤ c) × ((c < col + 4) × ((r < row + 4) × (4 * ((c - col + 4 - (r - row)) % 4) + (r - row) < n))))
-
--- Some items of the tile at `x` are exchanged with their mirror images in the tile at `y`. All other items stay where they are
-pub record ItemsExchanged {A : Type 0} (some : ℕ → ℕ → Type 0) (x y : List ℕ) (old new : List A) : Type 0 where
-  pub same_length : length new ≡ length old
-  pub first : (r c : ℕ) → r < 8 → c < 8 → some r c → slice_get new (slice_index x r + c) ≡ slice_get old (slice_index y c + r)
-  pub second : (r c : ℕ) → r < 8 → c < 8 → some r c → slice_get new (slice_index y c + r) ≡ slice_get old (slice_index x r + c)
-  pub others : (p : ℕ) → ((r c : ℕ) → r < 8 → c < 8 → some r c → (p ≢ slice_index x r + c) × (p ≢ slice_index y c + r)) → slice_get new p ≡ slice_get old p

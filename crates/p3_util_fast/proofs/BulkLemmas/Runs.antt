@@ -2,7 +2,7 @@
 use Rattle.std.proofs.Common.{◌≡◌, ℕ, ◌+◌, ◌-◌, min, max, ◌<◌, ◌≤◌, ◌⊎◌, List, ◌++◌, length, slice_get, take, drop, length-append, length-drop, inl, inr, refl, ap, ◌∙◌, length-take, arith}
 use Rattle.std.proofs.lemmas.Bool.{cases_lt}
 use Rattle.p3_util_kernels.specs.Exchanged.{RunsExchanged}
-use Rattle.p3_util_kernels.proofs.PlacesLemmas.ListParts.{slice_get-append_left, slice_get-append_right, slice_get-take, slice_get-drop}
+use Rattle.p3_util_kernels.proofs.PlacesLemmas.ListParts.{length-spliced, slice_get-append_left, slice_get-append_right, slice_get-beside, slice_get-drop, slice_get-spliced, slice_get-take}
 use Rattle.p3_util_kernels.proofs.PlacesLemmas.Runs.{RunsExchanged-joined}
 
 -- the same exchange with the two runs named in the other order
@@ -29,44 +29,28 @@ pub RunsExchanged-slices : {A : Type 0} (i j len n : ℕ) (xs front back first s
 RunsExchanged-slices i j len n xs front back first second apart within same is_front is_back is_first is_second =
     let front_len : length front ≡ j = omega (arith, ap length is_front, length-take j xs) in
     let back_len : length back + j ≡ length xs = omega (arith, ap length is_back, length-drop j xs) in
-    let before_len : length (take i front) ≡ i = omega (arith, length-take i front) in
-    let first_len : length first ≡ len = omega (arith, ap length is_first, length-take len back) in
+    let first_len : length first ≡ n = omega (arith, ap length is_first, length-take len back) in
     let second_len : length second ≡ len = omega (arith, ap length is_second, length-take n (drop i front), length-drop i front) in
-    let rest_len : length (drop n (drop i front)) + (i + len) ≡ j = omega (arith, length-drop n (drop i front), length-drop i front) in
     let left = take i front ++ (first ++ drop n (drop i front)) in
-    let left_len : length left ≡ j = omega (arith, length-append (take i front) (first ++ drop n (drop i front)), length-append first (drop n (drop i front))) in
+    let right = second ++ drop len back in
+    let left_len : length left ≡ j = length-spliced i n front first first_len (omega arith) ∙ front_len in
     let of_front : (p : ℕ) → p < j → slice_get front p ≡ slice_get xs p = λ p h. ap (λ ys. slice_get ys p) is_front ∙ slice_get-take j xs p h in
     let of_back : (p q : ℕ) → q ≡ j + p → slice_get back p ≡ slice_get xs q = λ p q e. ap (λ ys. slice_get ys p) is_back ∙ slice_get-drop j xs p q e in
     record {
-      same_length = omega (arith, length-append left (second ++ drop len back), length-append second (drop len back), length-drop len back);
+      same_length = omega (arith, length-append left right, length-spliced 0 len back second second_len (omega arith));
       first = λ t h.
-          slice_get-append_left left (second ++ drop len back) (i + t) (omega arith)
-          ∙ slice_get-append_right (take i front) (first ++ drop n (drop i front)) (i + t) t (omega arith)
-          ∙ slice_get-append_left first (drop n (drop i front)) t (omega arith)
+          slice_get-append_left left right (i + t) (omega arith) ∙ slice_get-spliced i n front first (i + t) t first_len (omega arith) (omega arith) refl
           ∙ ap (λ ys. slice_get ys t) is_first ∙ slice_get-take len back t h ∙ of_back t (j + t) refl;
       second = λ t h.
-          slice_get-append_right left (second ++ drop len back) (j + t) t (omega arith)
-          ∙ slice_get-append_left second (drop len back) t (omega arith)
+          slice_get-append_right left right (j + t) t (omega arith) ∙ slice_get-spliced 0 len back second t t second_len (omega arith) h (omega arith)
           ∙ ap (λ ys. slice_get ys t) is_second ∙ slice_get-take n (drop i front) t (omega arith) ∙ slice_get-drop i front t (i + t) refl ∙ of_front (i + t) (omega arith);
       others = λ p h k.
-          elim (cases_lt p i) [
-            | inl early ↦
-                slice_get-append_left left (second ++ drop len back) p (omega arith)
-                ∙ slice_get-append_left (take i front) (first ++ drop n (drop i front)) p (omega arith)
-                ∙ slice_get-take i front p early ∙ of_front p (omega arith)
-            | inr later ↦
-                let past : i + len ≤ p = elim h [ inl l ↦ absurd (omega arith) | inr r ↦ r ] in
-                elim (cases_lt p j) [
-                  | inl between ↦
-                      slice_get-append_left left (second ++ drop len back) p (omega arith)
-                      ∙ slice_get-append_right (take i front) (first ++ drop n (drop i front)) p (p - i) (omega arith)
-                      ∙ slice_get-append_right first (drop n (drop i front)) (p - i) (p - i - len) (omega arith)
-                      ∙ slice_get-drop n (drop i front) (p - i - len) (p - i) (omega arith) ∙ slice_get-drop i front (p - i) p (omega arith) ∙ of_front p between
-                  | inr after ↦
-                      let beyond : j + len ≤ p = elim k [ inl l ↦ absurd (omega arith) | inr r ↦ r ] in
-                      slice_get-append_right left (second ++ drop len back) p (p - j) (omega arith)
-                      ∙ slice_get-append_right second (drop len back) (p - j) (p - j - len) (omega arith)
-                      ∙ slice_get-drop len back (p - j - len) (p - j) (omega arith) ∙ of_back (p - j) p (omega arith)
-                ]
+          elim (cases_lt p j) [
+            | inl before ↦
+                slice_get-append_left left right p (omega arith)
+                ∙ slice_get-beside i n front first p first_len (omega arith) (elim h [ inl l ↦ inl l | inr r ↦ inr (omega arith) ]) ∙ of_front p before
+            | inr from ↦
+                let beyond : j + len ≤ p = elim k [ inl l ↦ absurd (omega arith) | inr r ↦ r ] in
+                slice_get-append_right left right p (p - j) (omega arith) ∙ slice_get-beside 0 len back second (p - j) second_len (omega arith) (inr (omega arith)) ∙ of_back (p - j) p (omega arith)
           ];
     }

@@ -1,17 +1,23 @@
 -- Parts of a grid are exchanged across its diagonal, one after another.
 use Rattle.std.proofs.Common.{◌≡◌, ◌≢◌, ℕ, ◌+◌, ◌-◌, ◌*◌, ◌^◌, ◌<◌, ◌≤◌, ◌⊎◌, min, max, List, length, slice_index, inl, inr, ap, mul-le-mul_left, mul-le-mul_right, arith}
-use Rattle.std.proofs.lemmas.Bool.{cases_eq, cases_lt}
+use Rattle.std.proofs.lemmas.Bool.{cases_lt}
 use Rattle.std.proofs.lemmas.Nat.{same_from_place}
 use Rattle.p3_util_fast.specs.declared.grid.Grid.{Grid}
 use Rattle.p3_util_kernels.specs.declared.transpose.region.Region.{Region}
 use Rattle.p3_util_kernels.specs.Exchanged.{RunsExchanged}
-use Rattle.p3_util_fast.specs.Tiles.{AreTiles, IsTile, TileTurned, TilesExchanged}
-use Rattle.p3_util_fast.specs.Grid.{HoldsGrid, PlacesFit, SwapsInGrid, row_place, square_at}
+use Rattle.p3_util_fast.specs.Tiles.{AreTiles, IsTile}
+use Rattle.p3_util_fast.specs.Registers.{ItemsExchanged}
+use Rattle.p3_util_fast.specs.Grid.{HoldsGrid, PlacesFit, SwapsInGrid, row_place}
 use Rattle.p3_util_kernels.specs.Halves.{IsCut}
 use Rattle.p3_util_kernels.specs.Region.{IsInRegion}
 use Rattle.p3_util_fast.proofs.GridLemmas.Crossing.{outside}
 use Rattle.p3_util_fast.proofs.GridLemmas.Mirrored.{Mirrored-cut, Mirrored-none}
 use Rattle.p3_util_kernels.proofs.TransposeLemmas.Region.{IsCut-cols, IsCut-rows}
+
+-- an item of a tile, and its mirror image
+in_tile : (row col a b : ℕ) → (row ≡ col) ⊎ (row + 8 ≤ col) → row ≤ a → a < row + 8 → col ≤ b → b < col + 8
+    → let tile : Region = record { row_start = row; row_end = row + 8; col_start = col; col_end = col + 8 } in IsInRegion tile (max a b) (min a b) × IsInRegion tile (max b a) (min b a)
+in_tile row col a b above ha ka hb kb = grind (arith, above)
 
 module _ {A : Type 0} (grid : Grid) (items : List A) (holds : HoldsGrid grid items) where
   side : ℕ
@@ -34,20 +40,12 @@ module _ {A : Type 0} (grid : Grid) (items : List A) (holds : HoldsGrid grid ite
   -- two rows do not overlap
   rows_apart : (a b : ℕ) → a < 2 ^ grid.digits → b < 2 ^ grid.digits → a ≢ b
       → (row_place grid a + 2 ^ grid.digits ≤ row_place grid b) ⊎ (row_place grid b + 2 ^ grid.digits ≤ row_place grid a)
-  rows_apart a b ha hb ne =
-      elim (cases_lt a b) [
-        | inl less ↦ holds.apart a b less hb
-        | inr more ↦ elim (holds.apart b a (omega arith) ha) [ inl u ↦ inr u | inr u ↦ inl u ]
-      ]
+  rows_apart a b ha hb ne = grind (arith, ne, holds.apart a b, holds.apart b a)
 
   -- each place has only one row and one column
   pub one_place : (a b v w : ℕ) → a < 2 ^ grid.digits → b < 2 ^ grid.digits → v < 2 ^ grid.digits → w < 2 ^ grid.digits
       → row_place grid a + b ≡ row_place grid v + w → (a ≡ v) × (b ≡ w)
-  one_place a b v w ha hb hv hw e =
-      elim (cases_eq a v) [
-        | inl same ↦ let at : row_place grid a ≡ row_place grid v = ap (row_place grid) same in (same, omega arith)
-        | inr other ↦ elim (rows_apart a v ha hv (λ s. omega arith)) [ inl u ↦ absurd (omega arith) | inr u ↦ absurd (omega arith) ]
-      ]
+  one_place a b v w ha hb hv hw e = grind (arith, e, rows_apart a v ha hv)
 
   abbrev Within : ℕ → ℕ → ℕ → Type 0
   Within t a b = (t < grid.width) × (a < 2 ^ grid.digits) × (b < 2 ^ grid.digits)
@@ -78,17 +76,7 @@ module _ {A : Type 0} (grid : Grid) (items : List A) (holds : HoldsGrid grid ite
         → SwapsInGrid grid (record { row_start = a; row_end = a + 1; col_start = b; col_end = b + 1 }) xs ys
     SwapsInGrid-pair a b xs ys less below pair = record {
       same_length = pair.same_length;
-      crossed = λ t c d h.
-          elim (cases_lt c d) [
-            | inl up ↦
-                let row : c ≡ a = omega (arith, h.1.row_from, h.1.row_to) in
-                let col : d ≡ b = omega (arith, h.1.col_from, h.1.col_to) in
-                rw (row, col) (pair.first t h.0.0)
-            | inr down ↦
-                let row : d ≡ a = omega (arith, h.1.row_from, h.1.row_to) in
-                let col : c ≡ b = omega (arith, h.1.col_from, h.1.col_to) in
-                rw (row, col) (pair.second t h.0.0)
-          ];
+      crossed = λ t c d h. grind (arith, h, pair.first t h.0.0, pair.second t h.0.0);
       others = λ k out.
           pair.others k
           (outside k _ grid.width (λ t ht. out t a b ((ht, omega arith, below), grind arith)))
@@ -129,64 +117,36 @@ module _ {A : Type 0} (grid : Grid) (items : List A) (holds : HoldsGrid grid ite
         (cut_exchanged last _ _ ys ys zs (IsCut-cols last (row + 1) (omega arith) (omega arith))
         (SwapsInGrid-none _ ys (λ t a b h k. omega (arith, k.row_from, k.col_to))) step)
 
-    -- a tile is exchanged with its mirror image
-    pub SwapsInGrid-tile : (row col : ℕ) (x y : List ℕ) (xs ys : List B) → grid.width ≡ 1 → row + 8 ≤ col → col + 8 ≤ 2 ^ grid.digits
+    -- a tile is exchanged with its mirror image, which is the tile itself on the diagonal
+    pub SwapsInGrid-tile : (row col : ℕ) (x y : List ℕ) (some : ℕ → ℕ → Type 0) (xs ys : List B) → grid.width ≡ 1 → (row ≡ col) ⊎ (row + 8 ≤ col) → col + 8 ≤ 2 ^ grid.digits
         → ((t : ℕ) → t < 8 → slice_index x t ≡ row_place grid (row + t) + col) → ((t : ℕ) → t < 8 → slice_index y t ≡ row_place grid (col + t) + row)
-        → TilesExchanged 64 x y xs ys
+        → ((r c : ℕ) → r < 8 → c < 8 → row + r ≤ col + c → some r c) → ItemsExchanged some x y xs ys
         → SwapsInGrid grid (record { row_start = row; row_end = row + 8; col_start = col; col_end = col + 8 }) xs ys
-    SwapsInGrid-tile row col x y xs ys one above within upper lower s =
+    SwapsInGrid-tile row col x y some xs ys one above within upper lower all s =
         let single : (n : ℕ) → n * grid.width + 0 ≡ n = λ n. omega (arith, ap (λ k. n * k) one) in
         let up : (a b : ℕ) → row ≤ a → a < row + 8 → col ≤ b → (row_place grid a + b) * grid.width + 0 ≡ slice_index x (a - row) + (b - col) =
         λ a b ha ka hb. let at : row + (a - row) ≡ a = omega arith in omega (arith, single (row_place grid a + b), rw at at (upper (a - row) (omega arith))) in
-        let low : (a b : ℕ) → row ≤ a → a < row + 8 → col ≤ b → b < col + 8 → (row_place grid b + a) * grid.width + 0 ≡ slice_index y (b - col) + (a - row) =
-        λ a b ha ka hb kb. let at : col + (b - col) ≡ b = omega arith in omega (arith, single (row_place grid b + a), rw at at (lower (b - col) (omega arith))) in
+        let low : (a b : ℕ) → row ≤ a → col ≤ b → b < col + 8 → (row_place grid b + a) * grid.width + 0 ≡ slice_index y (b - col) + (a - row) =
+        λ a b ha hb kb. let at : col + (b - col) ≡ b = omega arith in omega (arith, single (row_place grid b + a), rw at at (lower (b - col) (omega arith))) in
         record {
           same_length = s.same_length;
           crossed = λ t a b h.
               let first : t ≡ 0 = omega (arith, h.0.0, one) in
+              let ra : row ≤ min a b = h.1.row_from in
+              let ka : min a b < row + 8 = h.1.row_to in
+              let cb : col ≤ max a b = h.1.col_from in
+              let kb : max a b < col + 8 = h.1.col_to in
               elim (cases_lt a b) [
-                | inl less ↦
-                    let ra : row ≤ a = omega (arith, h.1.row_from) in
-                    let ka : a < row + 8 = omega (arith, h.1.row_to) in
-                    let cb : col ≤ b = omega (arith, h.1.col_from) in
-                    let kb : b < col + 8 = omega (arith, h.1.col_to) in
-                    rw (first, up a b ra ka cb, low a b ra ka cb kb) (s.first (a - row) (b - col) (omega arith) (omega arith))
-                | inr more ↦
-                    let ra : row ≤ b = omega (arith, h.1.row_from) in
-                    let ka : b < row + 8 = omega (arith, h.1.row_to) in
-                    let cb : col ≤ a = omega (arith, h.1.col_from) in
-                    let kb : a < col + 8 = omega (arith, h.1.col_to) in
-                    rw (first, up b a ra ka cb, low b a ra ka cb kb) (s.second (b - row) (a - col) (omega arith) (omega arith))
+                | inl less ↦ rw (first, up a b (omega arith) (omega arith) (omega arith), low a b (omega arith) (omega arith) (omega arith)) (s.first (a - row) (b - col) (omega arith) (omega arith) (all _ _ (omega arith) (omega arith) (omega arith)))
+                | inr more ↦ rw (first, up b a (omega arith) (omega arith) (omega arith), low b a (omega arith) (omega arith) (omega arith)) (s.second (b - row) (a - col) (omega arith) (omega arith) (all _ _ (omega arith) (omega arith) (omega arith)))
               ];
           others = λ k out.
-              s.others k (λ r c hc h. (
-                λ e. out 0 (row + r) (col + c) ((omega (arith, one), omega arith, omega arith), grind arith)
-                    (omega (arith, e, single (row_place grid (row + r) + (col + c)), upper r (omega arith))),
-                λ e. out 0 (col + c) (row + r) ((omega (arith, one), omega arith, omega arith), grind arith)
-                    (omega (arith, e, single (row_place grid (col + c) + (row + r)), lower c hc)),
+              s.others k (λ r c hr hc h.
+              let at = in_tile row col (row + r) (col + c) above (omega arith) (omega arith) (omega arith) (omega arith) in
+              let low : row ≤ col = elim above [ inl e ↦ omega arith | inr e ↦ omega arith ] in (
+                λ e. out 0 (row + r) (col + c) ((omega (arith, one), omega arith, omega arith), at.0) (omega (arith, e, single (row_place grid (row + r) + (col + c)), upper r hr)),
+                λ e. out 0 (col + c) (row + r) ((omega (arith, one), omega arith, omega arith), at.1) (omega (arith, e, single (row_place grid (col + c) + (row + r)), lower c hc)),
               ));
-        }
-
-    -- a tile on the diagonal is transposed
-    pub SwapsInGrid-turned : (start : ℕ) (x : List ℕ) (xs ys : List B) → grid.width ≡ 1 → start + 8 ≤ 2 ^ grid.digits
-        → ((t : ℕ) → t < 8 → slice_index x t ≡ row_place grid (start + t) + start) → TileTurned 64 x xs ys
-        → SwapsInGrid grid (square_at start 8) xs ys
-    SwapsInGrid-turned start x xs ys one within at s =
-        let place : (a b : ℕ) → start ≤ a → a < start + 8 → start ≤ b → (row_place grid a + b) * grid.width + 0 ≡ slice_index x (a - start) + (b - start) =
-        λ a b ha ka hb. let row : start + (a - start) ≡ a = omega arith in omega (arith, ap (λ k. (row_place grid a + b) * k) one, rw row at (at (a - start) (omega arith))) in
-        record {
-          same_length = s.same_length;
-          crossed = λ t a b h.
-              let first : t ≡ 0 = omega (arith, h.0.0, one) in
-              let ha : (start ≤ a) × (a < start + 8) = (omega (arith, h.1), omega (arith, h.1)) in
-              let hb : (start ≤ b) × (b < start + 8) = (omega (arith, h.1), omega (arith, h.1)) in
-              rw (first, place a b ha.0 ha.1 hb.0, place b a hb.0 hb.1 ha.0) (s.turned (a - start) (b - start) (omega (arith, ha)) (omega (arith, hb)) (omega (arith, ha, hb)));
-          others = λ k out.
-              s.others k (λ r c hr hc h e.
-              let row : start + r - start ≡ r = omega arith in
-              let col : start + c - start ≡ c = omega arith in
-              out 0 (start + r) (start + c) ((omega (arith, one), omega arith, omega arith), grind arith)
-              (omega (arith, e, rw (row, col) at (place (start + r) (start + c) (omega arith) (omega arith) (omega arith)))));
         }
 
   -- the rows of tiles

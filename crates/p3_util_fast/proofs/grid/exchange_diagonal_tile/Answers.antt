@@ -1,10 +1,10 @@
 -- Each turn of the inner loop exchanges one more place of a row to the right of the diagonal, and each
 -- turn of the outer loop one more row.
-use Rattle.std.proofs.Common.{◌≡◌, ◌+◌, ◌-◌, ◌*◌, ◌∙◌, slice_index, suc, refl, arith}
+use Rattle.std.proofs.Common.{◌≡◌, ◌+◌, ◌-◌, ◌*◌, ◌∙◌, slice_index, inl, suc, refl, arith}
 use Rattle.p3_util_kernels.specs.declared.transpose.region.Region.{Region}
 use Rattle.p3_util_fast.specs.Grid.{row_place}
 use Rattle.p3_util_kernels.specs.SwapCounts.{square_swaps}
-use Rattle.p3_util_fast.proofs.GridLemmas.Parts.{IsTile-grid, SwapsInGrid-corner, SwapsInGrid-item, SwapsInGrid-none, SwapsInGrid-turned, grid_fits, grid_room, one_place}
+use Rattle.p3_util_fast.proofs.GridLemmas.Parts.{IsTile-grid, SwapsInGrid-corner, SwapsInGrid-item, SwapsInGrid-none, SwapsInGrid-tile, grid_fits, grid_room, one_place}
 use Rattle.p3_util_kernels.proofs.BitsLemmas.Pairs.{square_swaps-next}
 use Rattle.p3_util_fast.proofs.grid.exchange_diagonal_tile.Goals as goal
 
@@ -21,7 +21,8 @@ turn_tile-requires g c =
 
 pub returns-then-grid-eq1-clause-exchanged : goal.returns-then-grid-eq1-clause-exchanged
 returns-then-grid-eq1-clause-exchanged g c =
-    SwapsInGrid-turned c.args.grid _ c.requires.ready c.args.start _ _ _ c.if-grid-eq1.true c.requires.within (c.tile_rows-places.ensures c.args.start c.args.start c.requires.whole c.requires.within (omega arith)) c.turn_tile.ensures.turned
+    let rows = c.tile_rows-places.ensures c.args.start c.args.start c.requires.whole c.requires.within (omega arith) in
+    SwapsInGrid-tile c.args.grid _ c.requires.ready c.args.start c.args.start _ _ _ _ _ c.if-grid-eq1.true (inl refl) c.requires.within rows rows (λ r c hr hc h. (omega arith, omega arith)) c.turn_tile.ensures.turned
 
 -- wider places
 pub loop-row-init : goal.loop-row-init

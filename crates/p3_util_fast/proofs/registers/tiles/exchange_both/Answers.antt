@@ -10,10 +10,10 @@ returns-in-2-clause-exchanged g c =
     let same = g.met.M.RunsOfPlaces.same_items in
     let join = RowsExchanged-joined _ _ _ c.requires.tiles in
     rw (same c.args.list.now, same c.exchange_band-in-2-3.new.list) at
-    (TilesExchanged-rows _ _ _ c.requires.tiles _ _
-    (join 0 6 8 _ _ _ (omega arith) (omega arith) (omega arith)
-    (join 0 4 6 _ _ _ (omega arith) (omega arith) (omega arith)
-    (join 0 2 4 _ _ _ (omega arith) (omega arith) (omega arith) (rw half at c.exchange_band.ensures.exchanged) (rw half at c.exchange_band-in-2.ensures.exchanged))
+    (TilesExchanged-rows _ _ _ _
+    (join 0 6 8 _ _ _ (omega arith) (omega arith)
+    (join 0 4 6 _ _ _ (omega arith) (omega arith)
+    (join 0 2 4 _ _ _ (omega arith) (omega arith) (rw half at c.exchange_band.ensures.exchanged) (rw half at c.exchange_band-in-2.ensures.exchanged))
     (rw half at c.exchange_band-in-2-2.ensures.exchanged)) (rw half at c.exchange_band-in-2-3.ensures.exchanged)))
 
 pub returns-in-4-clause-exchanged : goal.returns-in-4-clause-exchanged
@@ -21,14 +21,14 @@ returns-in-4-clause-exchanged g c =
     let half : g.D.Register.SIDE ≡ 4 = omega (arith, c.SIDE.ensures, c.in-4.is) in
     let same = g.met.M.RunsOfPlaces.same_items in
     rw (same c.args.list.now, same c.exchange_band-in-4-2.new.list) at
-    (TilesExchanged-rows _ _ _ c.requires.tiles _ _
-    (RowsExchanged-joined _ _ _ c.requires.tiles 0 4 8 _ _ _ (omega arith) (omega arith) (omega arith) (rw half at c.exchange_band-in-4.ensures.exchanged) (rw half at c.exchange_band-in-4-2.ensures.exchanged)))
+    (TilesExchanged-rows _ _ _ _
+    (RowsExchanged-joined _ _ _ c.requires.tiles 0 4 8 _ _ _ (omega arith) (omega arith) (rw half at c.exchange_band-in-4.ensures.exchanged) (rw half at c.exchange_band-in-4-2.ensures.exchanged)))
 
 pub returns-in-8-clause-exchanged : goal.returns-in-8-clause-exchanged
 returns-in-8-clause-exchanged g c =
     let half : g.D.Register.SIDE ≡ 8 = omega (arith, c.SIDE.ensures, c.in-8.is) in
     let same = g.met.M.RunsOfPlaces.same_items in
-    rw (same c.args.list.now, same c.exchange_band-in-8.new.list) at (TilesExchanged-rows _ _ _ c.requires.tiles _ _ (rw half at c.exchange_band-in-8.ensures.exchanged))
+    rw (same c.args.list.now, same c.exchange_band-in-8.new.list) at (TilesExchanged-rows _ _ _ _ (rw half at c.exchange_band-in-8.ensures.exchanged))
 
 pub returns-in-2-clause-holder : goal.returns-in-2-clause-holder
 returns-in-2-clause-holder g c =
