@@ -1,39 +1,25 @@
 -- A region whose columns are put to different rows, and the number of its items that are put.
-use Rattle.std.proofs.Common.{◌≡◌, ℕ, zero, suc, ◌+◌, ◌-◌, ◌*◌, ◌<◌, ◌≤◌, ◌⊎◌, List, slice_get, inl, inr, refl, sym, ◌∙◌, arith}
+use Rattle.std.proofs.Common.{◌≡◌, ℕ, zero, suc, ◌+◌, ◌-◌, ◌*◌, ◌<◌, ◌≤◌, ◌⊎◌, nat_lt, if◌then◌else◌, List, length, inl, inr, refl, sym, ◌∙◌, arith}
 use Rattle.std.proofs.lemmas.Bool.{cases_lt}
+use Rattle.std.proofs.lemmas.Bool.Decides.{nat_tests}
 use Rattle.std.proofs.lemmas.Nat.{same_from_place}
 use Rattle.p3_util_kernels.specs.declared.transpose.region.Region.{Region}
 use Rattle.p3_util_kernels.specs.Sums.{sum_below}
 use Rattle.p3_util_dispatch.specs.Lines.{IsPutTo, IsRowPut, cells_before, items_to, limit}
-use Rattle.p3_util_kernels.specs.Region.{IsInRegion, IsRegionTransposed, cols_of, items_of, rows_of}
+use Rattle.p3_util_kernels.specs.Region.{IsRegionTransposed, cols_of, items_of, rows_of}
 use Rattle.p3_util_kernels.proofs.BitsLemmas.Sums.{sum_below-same}
-
--- b, or a if n is zero
-pick : (n a b : ℕ) → ℕ
-pick zero a b = a
-pick (suc n) a b = b
-
-pick-a : (n a b : ℕ) → n ≡ 0 → pick n a b ≡ a
-unfolding pick
-pick-a zero a b is = refl
-pick-a (suc n) a b is = absurd (omega (arith, is))
-
-pick-b : (n a b : ℕ) → 0 < n → pick n a b ≡ b
-unfolding pick
-pick-b zero a b some = absurd (omega (arith, some))
-pick-b (suc n) a b some = refl
 
 -- the columns before `col` are put as far as g says, and the others as far as f says
 pub ahead : (col : ℕ) (f g : ℕ → ℕ) → ℕ → ℕ
-ahead col f g x = pick (col - x) (f x) (g x)
+ahead col f g x = if nat_lt x col then g x else f x
 
 pub ahead-left : (col : ℕ) (f g : ℕ → ℕ) (x : ℕ) → x < col → ahead col f g x ≡ g x
 unfolding ahead
-ahead-left col f g x h = pick-b (col - x) (f x) (g x) (omega (arith, h))
+ahead-left col f g x h = grind (arith, nat_tests)
 
 pub ahead-right : (col : ℕ) (f g : ℕ → ℕ) (x : ℕ) → col ≤ x → ahead col f g x ≡ f x
 unfolding ahead
-ahead-right col f g x h = pick-a (col - x) (f x) (g x) (omega (arith, h))
+ahead-right col f g x h = grind (arith, nat_tests)
 
 -- a sum whose terms from c on and before e are larger by d
 sum_below-larger : (n c e d : ℕ) (f g : ℕ → ℕ) → c ≤ e → ((i : ℕ) → i < n → c ≤ i → i < e → g i ≡ f i + d) → ((i : ℕ) → i < n → (i < c) ⊎ (e ≤ i) → g i ≡ f i)
@@ -46,8 +32,8 @@ sum_below-larger (suc n) c e d f g order here there =
     elim (cases_lt n c) [
       | inl left ↦
           let now : suc n - c - (suc n - e) ≡ 0 = omega (arith, left) in
-          let then : n - c - (n - e) ≡ 0 = omega (arith, left) in
-          rw now (omega (arith, rw then at before, there n (omega arith) (inl left)))
+          let prior : n - c - (n - e) ≡ 0 = omega (arith, left) in
+          rw now (omega (arith, rw prior at before, there n (omega arith) (inl left)))
       | inr right ↦
           elim (cases_lt n e) [
             | inl inside ↦
@@ -120,46 +106,21 @@ module _ {A : Type 0} (region : Region) (width height : ℕ) (input : List A) wh
       → ((x : ℕ) → c ≤ x → x < e → (f x ≡ a) × (g x ≡ b)) → ((x : ℕ) → (x < c) ⊎ (e ≤ x) → g x ≡ f x)
       → IsPutTo region f width height input old mid → IsRegionTransposed (record { row_start = a; row_end = b; col_start = c; col_end = e }) width height input mid new
       → IsPutTo region g width height input old new
-  IsPutTo-more a b c e f g old mid new low from order to left right here there first second =
-      let kept : (x y : ℕ) → IsInRegion region x y → y < f x → slice_get new (x * height + y) ≡ slice_get input (y * width + x) =
-      λ x y h less.
-      second.others (x * height + y) (λ v w k e.
-      let same = same_from_place x y v w height (omega (arith, h.row_to, low)) (omega (arith, k.row_to, to, low)) e in
-      omega (arith, same.0, same.1, less, k.row_from, (here x (omega (arith, same.0, k.col_from)) (omega (arith, same.0, k.col_to))).0))
-      ∙ first.places x y h less in
-      let put : (x y : ℕ) → IsInRegion region x y → c ≤ x → x < e → y < g x → slice_get new (x * height + y) ≡ slice_get input (y * width + x) =
-      λ x y h from_c to_e less.
-      let at = here x from_c to_e in
-      elim (cases_lt y a) [
-        | inl above ↦ kept x y h (omega (arith, at.0, above))
-        | inr below ↦ second.places x y (record { row_from = below; row_to = omega (arith, at.1, less); col_from = from_c; col_to = to_e })
-      ] in
-      record {
-        same_length = second.same_length ∙ first.same_length;
-        places = λ x y h less.
-            elim (cases_lt x c) [
-              | inl before ↦ kept x y h (omega (arith, there x (inl before), less))
-              | inr from_c ↦
-                  elim (cases_lt x e) [
-                    | inl to_e ↦ put x y h from_c to_e less
-                    | inr after ↦ kept x y h (omega (arith, there x (inr after), less))
-                  ]
-            ];
-        others = λ p out.
-            second.others p (λ x y k.
-            out x y (record { row_from = omega (arith, k.row_from); row_to = omega (arith, k.row_to); col_from = omega (arith, k.col_from); col_to = omega (arith, k.col_to) })
-            (omega (arith, k.row_to, (here x k.col_from k.col_to).1)))
-            ∙ first.others p (λ x y h less.
-            out x y h
-            (elim (cases_lt x c) [
-              | inl before ↦ omega (arith, there x (inl before), less)
-              | inr from_c ↦
-                  elim (cases_lt x e) [
-                    | inl to_e ↦ let at = here x from_c to_e in omega (arith, at.0, at.1, less, order)
-                    | inr after ↦ omega (arith, there x (inr after), less)
-                  ]
-            ]));
-      }
+  IsPutTo-more a b c e f g old mid new low from order to left right here there first second = record {
+    same_length = second.same_length ∙ first.same_length;
+    places = λ x y h less.
+        elim (cases_lt y (f x)) [
+          | inl early ↦
+              second.others (x * height + y) (λ v w k e.
+              let same = same_from_place x y v w height (omega (arith, h.row_to, low)) (omega (arith, k.row_to, to, low)) e in
+              omega (arith, same.0, same.1, early, k.row_from, (here x (omega (arith, same.0, k.col_from)) (omega (arith, same.0, k.col_to))).0))
+              ∙ first.places x y h early
+          | inr late ↦ second.places x y (grind (arith, here x, there x, late, less))
+        ];
+    others = λ p out.
+        second.others p (λ x y k. out x y (grind (arith, k, from, to, left, right)) (omega (arith, k.row_to, (here x k.col_from k.col_to).1)))
+        ∙ first.others p (λ x y h less. out x y h (grind (arith, less, order, here x, there x)));
+  }
 
 -- the rows to which columns are put
 module _ (region : Region) (cells before step : ℕ) (order : region.row_start ≤ region.row_end) where
@@ -201,53 +162,55 @@ pub ahead-there : (col end : ℕ) (f g : ℕ → ℕ) (x : ℕ) → col < end �
 ahead-there col end f g x order (inl before) = ahead-left end f g x (omega (arith, order, before)) ∙ sym (ahead-left col f g x before)
 ahead-there col end f g x order (inr after) = ahead-right end f g x after ∙ sym (ahead-right col f g x (omega (arith, order, after)))
 
--- the columns from c on and before e, which have the same limits, are put from row a to row b
-pub further : {A : Type 0} (region : Region) (width height : ℕ) (input mid new : List A) (cells before step done next a b c e : ℕ)
-    → region.row_start ≤ region.row_end → region.row_end ≤ height → done ≤ next → region.col_start ≤ c → c < e → e ≤ region.col_end
-    → (step ≡ 0) ⊎ (e ≡ c + 1) → a ≡ limit region cells before step done c → b ≡ limit region cells before step next c
-    → IsRegionTransposed (record { row_start = a; row_end = b; col_start = c; col_end = e }) width height input mid new
-    → ((old : List A) → IsPutTo region (ahead c (limit region cells before step done) (limit region cells before step next)) width height input old mid
-    → IsPutTo region (ahead e (limit region cells before step done) (limit region cells before step next)) width height input old new)
-    × (items_to region (ahead c (limit region cells before step done) (limit region cells before step next)) + (b - a) * (e - c)
-    ≡ items_to region (ahead e (limit region cells before step done) (limit region cells before step next)))
-further region width height input mid new cells before step done next a b c e order low more from some to alike left right put =
-    let f : ℕ → ℕ = limit region cells before step done in
-    let g : ℕ → ℕ = limit region cells before step next in
-    let here : (x : ℕ) → c ≤ x → x < e → (ahead c f g x ≡ a) × (ahead e f g x ≡ b) =
-    λ x lower upper. let at = ahead-here region cells before step order done next c e x alike lower upper in (at.0 ∙ sym left, at.1 ∙ sym right) in
-    let there : (x : ℕ) → (x < c) ⊎ (e ≤ x) → ahead e f g x ≡ ahead c f g x = λ x out. ahead-there c e f g x some out in (
-      λ old first. IsPutTo-more region width height input a b c e (ahead c f g) (ahead e f g) old mid new low (omega (arith, left)) (omega (arith, left, right, more)) (omega (arith, right, order)) from to here there first put,
-      items_to-more region a b c e (ahead c f g) (ahead e f g) (omega (arith, left)) (omega (arith, left, right, more)) from (omega (arith, some)) to here there,
-    )
-
 -- nothing is put
-pub ahead-still : (col end : ℕ) (f g : ℕ → ℕ) (x : ℕ) → col < end → ((x : ℕ) → col ≤ x → x < end → ahead end f g x ≡ ahead col f g x) → ahead end f g x ≡ ahead col f g x
-ahead-still col end f g x order same =
-    elim (cases_lt x col) [
-      | inl before ↦ ahead-there col end f g x order (inl before)
-      | inr from ↦ elim (cases_lt x end) [ inl to ↦ same x from to | inr after ↦ ahead-there col end f g x order (inr after) ]
-    ]
+pub ahead-still : (col : ℕ) (f g : ℕ → ℕ) (x : ℕ) → f col ≡ g col → ahead (col + 1) f g x ≡ ahead col f g x
+unfolding ahead
+ahead-still col f g x same = grind (arith, nat_tests)
 
 -- The columns before `col` are put one line further, and no others. `Steps` and `StepsNow` say how many items are put before and after this
-abbrev pub IsRowPutTo : {A M : Type 0} → (region : Region) (col cells before step done width height : ℕ) (input out result : List A) (Steps StepsNow : ℕ → M → Type 0) → Type 0
-IsRowPutTo {A} {M} region col cells before step done width height input out result Steps StepsNow =
-    let from = limit region cells before step done in
-    let to = ahead col from (limit region cells before step (done + cells)) in
-    ((old : List A) → IsPutTo region from width height input old out → IsPutTo region to width height input old result)
-    × ((old : M) → Steps (items_to region from) old → StepsNow (items_to region to) old)
+pub record IsRowPutTo {A M : Type 0} (region : Region) (col cells before step done width height : ℕ) (input out result : List A) (Steps StepsNow : ℕ → M → Type 0) : Type 0 where
+  pub from : region.col_start ≤ col
+  pub to : col ≤ region.col_end
+  pub same_length : length result ≡ length out
+  pub put : (old : List A) → IsPutTo region (limit region cells before step done) width height input old out
+      → IsPutTo region (ahead col (limit region cells before step done) (limit region cells before step (done + cells))) width height input old result
+  pub steps : (old : M) → Steps (items_to region (limit region cells before step done)) old
+      → StepsNow (items_to region (ahead col (limit region cells before step done) (limit region cells before step (done + cells)))) old
 
-module _ {A M : Type 0} (region : Region) (cells before step done width height : ℕ) (input out result : List A) (Steps StepsNow : ℕ → M → Type 0) where
-  pub IsRowPutTo-none : IsRowPutTo region region.col_start cells before step done width height input out out Steps Steps
-  IsRowPutTo-none =
+module _ {A M : Type 0} (region : Region) (cells before step done width height : ℕ) (input out : List A) (Steps : ℕ → M → Type 0) where
+  pub IsRowPutTo-none : region.col_start ≤ region.col_end → IsRowPutTo region region.col_start cells before step done width height input out out Steps Steps
+  IsRowPutTo-none order =
       let f : ℕ → ℕ = limit region cells before step done in
       let g : ℕ → ℕ = ahead region.col_start f (limit region cells before step (done + cells)) in
       let same : (x : ℕ) → region.col_start ≤ x → x < region.col_end → g x ≡ f x = λ x from to. ahead-right region.col_start f _ x from in
-      (λ old put. IsPutTo-same region width height input f g old out same put, λ old holder. rw (items_to-same region f g same) holder)
+      record { from = omega arith; to = order; same_length = refl; put = λ old put. IsPutTo-same region width height input f g old out same put; steps = λ old holder. rw (items_to-same region f g same) holder }
 
-  pub IsRowPutTo-all : (col : ℕ) → col ≡ region.col_end → IsRowPutTo region col cells before step done width height input out result Steps StepsNow
+  pub IsRowPutTo-all : (result : List A) (StepsNow : ℕ → M → Type 0) (col : ℕ) → IsRowPutTo region col cells before step done width height input out result Steps StepsNow → col ≡ region.col_end
       → IsRowPut region cells before step done width height input out result Steps StepsNow
-  IsRowPutTo-all col end row =
+  IsRowPutTo-all result StepsNow col row end =
       let f : ℕ → ℕ = limit region cells before step (done + cells) in
       let g : ℕ → ℕ = ahead col (limit region cells before step done) f in
       let same : (x : ℕ) → region.col_start ≤ x → x < region.col_end → f x ≡ g x = λ x from to. sym (ahead-left col _ f x (omega (arith, end, to))) in
-      (λ old put. IsPutTo-same region width height input g f old result same (row.0 old put), λ old holder. rw (items_to-same region g f same) (row.1 old holder))
+      (λ old put. IsPutTo-same region width height input g f old result same (row.put old put), λ old holder. rw (items_to-same region g f same) (row.steps old holder))
+
+-- the columns from c on and before e, which have the same limits, are put from row a to row b
+pub IsRowPutTo-more : {A M : Type 0} (region : Region) (width height : ℕ) (input out mid new : List A) (Steps StepsMid StepsNow : ℕ → M → Type 0) (cells before step done a b c e : ℕ)
+    → region.row_start ≤ region.row_end → region.row_end ≤ height → c < e → e ≤ region.col_end
+    → (step ≡ 0) ⊎ (e ≡ c + 1) → a ≡ limit region cells before step done c → b ≡ limit region cells before step (done + cells) c
+    → IsRowPutTo region c cells before step done width height input out mid Steps StepsMid
+    → IsRegionTransposed (record { row_start = a; row_end = b; col_start = c; col_end = e }) width height input mid new
+    → ((n all : ℕ) (old : M) → StepsMid n old → n + (b - a) * (e - c) ≡ all → StepsNow all old)
+    → IsRowPutTo region e cells before step done width height input out new Steps StepsNow
+IsRowPutTo-more region width height input out mid new Steps StepsMid StepsNow cells before step done a b c e order low some to alike left right row put count =
+    let f : ℕ → ℕ = limit region cells before step done in
+    let g : ℕ → ℕ = limit region cells before step (done + cells) in
+    let here : (x : ℕ) → c ≤ x → x < e → (ahead c f g x ≡ a) × (ahead e f g x ≡ b) =
+    λ x lower upper. let at = ahead-here region cells before step order done (done + cells) c e x alike lower upper in (at.0 ∙ sym left, at.1 ∙ sym right) in
+    let there : (x : ℕ) → (x < c) ⊎ (e ≤ x) → ahead e f g x ≡ ahead c f g x = λ x out. ahead-there c e f g x some out in
+    record {
+      from = omega (arith, row.from, some);
+      to = to;
+      same_length = put.same_length ∙ row.same_length;
+      put = λ old first. IsPutTo-more region width height input a b c e (ahead c f g) (ahead e f g) old mid new low (omega (arith, left)) (omega (arith, left, right)) (omega (arith, right, order)) row.from to here there (row.put old first) put;
+      steps = λ old first. count _ _ old (row.steps old first) (items_to-more region a b c e (ahead c f g) (ahead e f g) (omega (arith, left)) (omega (arith, left, right)) row.from (omega (arith, some)) to here there);
+    }
