@@ -1,7 +1,7 @@
 -- Tiles that are exchanged or transposed by squares.
 use Rattle.std.proofs.Common.{◌≡◌, ◌≢◌, ℕ, ◌+◌, ◌-◌, ◌%◌, ◌<◌, ◌≤◌, ◌⊎◌, List, length, slice_get, slice_index, inl, inr, refl, sym, ap, ◌∙◌, arith}
 use Rattle.std.proofs.Math.Nat.{mod-le}
-use Rattle.std.proofs.lemmas.Bool.{cases_eq, cases_lt}
+use Rattle.std.proofs.lemmas.Bool.{cases_lt}
 use Rattle.p3_util_fast.specs.Tiles.{AreTiles, IsTile, TileTurned, TilesExchanged}
 use Rattle.p3_util_fast.specs.Registers.{AreDisjoint, AreColumns, AreReached, AreStored, IsSide, RowsExchanged, RowsReached, SquaresTurned, sum_of}
 use Rattle.p3_util_fast.proofs.BulkLemmas.Tiles.{IsItem, ItemsExchanged-joined, ItemsExchanged-same, one_tile, other_places, places-apart}
@@ -52,15 +52,7 @@ module _ (n side : ℕ) (known : (n ≡ 4) ⊎ (n ≡ 8)) (is : IsSide side) (sm
       let row_b = top (b - b % side) + b % side in
       let in_a : row_a < n = omega (arith, row_below side is a, low a (omega arith)) in
       let in_b : row_b < n = omega (arith, row_below side is b, low b k) in
-      elim (cases_eq row_a row_b) [
-        | inl same ↦
-            let on : slice_index x row_a ≡ slice_index x row_b = ap (slice_index x) same in
-            elim (squares_apart side is a b h) [
-              | inl one ↦ let tops : top (a - a % side) ≡ top (b - b % side) = ap top one in absurd (omega (arith, mod-le a side, mod-le b side))
-              | inr next ↦ inl (omega arith)
-            ]
-        | inr other ↦ grind (arith, other, at_a, at_b, up_a, up_b, in_a, in_b, apart row_a row_b, apart row_b row_a)
-      ]
+      grind (arith, at_a, at_b, up_a, up_b, in_a, in_b, apart row_a row_b, apart row_b row_a, squares_apart side is a b h, mod-le a side, mod-le b side)
 
   -- row r of the list and column c are in row `place` of the squares
   abbrev pub place : ℕ → ℕ → ℕ

@@ -1,9 +1,10 @@
 -- How far apart the 8 rows of a tile begin.
-use Rattle.std.proofs.Common.{◌≡◌, ℕ, zero, suc, ◌==◌, ◌+◌, ◌-◌, ◌*◌, ◌/◌, ◌%◌, ◌^◌, ◌<◌, ◌≤◌, [], ◌∷◌, slice_index, refl, ap, ◌∙◌, eqb-true, div-add-mod', arith}
+use Rattle.std.proofs.Common.{◌≡◌, ℕ, ◌==◌, ◌+◌, ◌-◌, ◌*◌, ◌/◌, ◌%◌, ◌^◌, ◌<◌, ◌≤◌, [], ◌∷◌, slice_index, refl, ap, ◌∙◌, eqb-true, div-add-mod', arith}
 use Rattle.p3_util_fast.specs.declared.grid.Grid.{Grid}
 use Rattle.p3_util_kernels.specs.Digits.{rev}
 use Rattle.p3_util_kernels.specs.Sums.{sum_below}
 use Rattle.p3_util_fast.specs.Grid.{IsInFirstRow, IsRowDistance, PlacesFit, row_place}
+use Rattle.p3_util_fast.proofs.RegistersSteps.{below_eight}
 use Rattle.p3_util_kernels.proofs.BitsLemmas.Digits.{rev-of-zero, rev-parts}
 use Rattle.p3_util_kernels.proofs.BitsLemmas.Powers.{exponent-le}
 use Rattle.p3_util_kernels.proofs.BitsLemmas.Tables.{all_below, all_below-at}
@@ -45,12 +46,4 @@ last_fits grid step first fits are at =
 -- a list of 8 numbers, entry by entry
 pub eight : (f : ℕ → ℕ) (a b c d e g h i : ℕ) → a ≡ f 0 → b ≡ f 1 → c ≡ f 2 → d ≡ f 3 → e ≡ f 4 → g ≡ f 5 → h ≡ f 6 → i ≡ f 7
     → (t : ℕ) → t < 8 → slice_index (a ∷ b ∷ c ∷ d ∷ e ∷ g ∷ h ∷ i ∷ []) t ≡ f t
-eight f a b c d e g h i p0 p1 p2 p3 p4 p5 p6 p7 zero less = p0
-eight f a b c d e g h i p0 p1 p2 p3 p4 p5 p6 p7 (suc zero) less = p1
-eight f a b c d e g h i p0 p1 p2 p3 p4 p5 p6 p7 (suc (suc zero)) less = p2
-eight f a b c d e g h i p0 p1 p2 p3 p4 p5 p6 p7 (suc (suc (suc zero))) less = p3
-eight f a b c d e g h i p0 p1 p2 p3 p4 p5 p6 p7 (suc (suc (suc (suc zero)))) less = p4
-eight f a b c d e g h i p0 p1 p2 p3 p4 p5 p6 p7 (suc (suc (suc (suc (suc zero))))) less = p5
-eight f a b c d e g h i p0 p1 p2 p3 p4 p5 p6 p7 (suc (suc (suc (suc (suc (suc zero)))))) less = p6
-eight f a b c d e g h i p0 p1 p2 p3 p4 p5 p6 p7 (suc (suc (suc (suc (suc (suc (suc zero))))))) less = p7
-eight f a b c d e g h i p0 p1 p2 p3 p4 p5 p6 p7 (suc (suc (suc (suc (suc (suc (suc (suc t)))))))) less = absurd (omega arith)
+eight f a b c d e g h i p0 p1 p2 p3 p4 p5 p6 p7 = below_eight (λ t. slice_index (a ∷ b ∷ c ∷ d ∷ e ∷ g ∷ h ∷ i ∷ []) t ≡ f t) p0 p1 p2 p3 p4 p5 p6 p7
