@@ -3,6 +3,7 @@
 use Rattle.std.proofs.Common.{◌≡◌, ℕ, suc, ◌+◌, ◌-◌, ◌*◌, ◌/◌, ◌%◌, ◌^◌, ◌<◌, ◌≤◌, Bool, true, false, if◌then◌else◌, min, max, nat_le, refl, ap, ◌∙◌, inl, inr, arith}
 use Rattle.std.specs.Int.{div_ceil}
 use Rattle.std.proofs.lemmas.Bool.{cases_lt, false_from_ne_true, le-leb, leb-true}
+use Rattle.std.proofs.lemmas.Bool.Decides.{nat_tests}
 use Rattle.std.proofs.lemmas.Grind.{div_ceil_times}
 use Rattle.std.proofs.lemmas.Nat.{div-add-mod', mod_below, same_from_place}
 use Rattle.std.proofs.Math.Nat.{lt_of_mul-lt-mul_right, mod-eq_of_lt, mod-eq-sub-mod, mul-le-mul, mul-le-mul_left, mul-le-mul_right, mul-mod_left, pos_of_ne-zero}
@@ -85,14 +86,7 @@ start-rising len part_len k l less = let rows : suc k * part_len ≤ l * part_le
 
 -- a number is in only one part
 pub part-same : (len part_len k l v : ℕ) → start_of len part_len k ≤ v → v < start_of len part_len (k + 1) → start_of len part_len l ≤ v → v < start_of len part_len (l + 1) → k ≡ l
-part-same len part_len k l v k_from k_to l_from l_to =
-    elim (cases_lt k l) [
-      | inl before ↦ absurd (omega (arith, start-rising len part_len k l before, k_to, l_from))
-      | inr from ↦ elim (cases_lt l k) [
-        | inl after ↦ absurd (omega (arith, start-rising len part_len l k after, l_to, k_from))
-        | inr to ↦ omega (arith, from, to)
-      ]
-    ]
+part-same len part_len k l v k_from k_to l_from l_to = grind (arith, start-rising len part_len k l, start-rising len part_len l k)
 
 -- each number below the length is in a part
 pub number-covered : (len part_len v : ℕ) → 0 < part_len → v < len
@@ -129,40 +123,16 @@ pair-far n i j far =
 module _ (n i j : ℕ) (in_order : i ≤ j) (below : j < n) where
   rank-below : rank n i j < pairs_of n
   rank-below =
-      let way : ℕ = j - i in
-      elim (cases_lt n (2 * way)) [
-        | inl far ↦
-            let less : suc (2 * (n - way)) * n ≤ n * n = mul-le-mul_right n (omega arith) in
-            rw (pair-far n i j far) (omega (arith, less))
-        | inr near ↦ rw (pair-near n i j near) (elim (cases_lt (2 * way) n) [
-          | inl shorter ↦ let less : suc (2 * way) * n ≤ n * n = mul-le-mul_right n shorter in omega (arith, less)
-          | inr half ↦ let whole : 2 * way * n ≡ n * n = ap (λ m. m * n) (omega arith) in omega (arith, whole)
-        ])
-      ]
+      let times : (m : ℕ) → m ≤ n → m * n ≤ n * n = λ m most. mul-le-mul_right n most in
+      grind (arith, nat_tests, in_order, below, times (suc (2 * (n - (j - i)))), times (suc (2 * (j - i))), times (2 * (j - i)))
 
   pub pair-below : number_of_pair n i j < pairs_of n
   pair-below = omega (arith, rank-below)
 
 rank-alone : (n i j k l : ℕ) → i ≤ j → j < n → k ≤ l → l < n → rank n i j ≡ rank n k l → (i ≡ k) × (j ≡ l)
 rank-alone n i j k l ij jn kl ln same =
-    elim (cases_lt n (2 * (j - i))) [
-      | inl far ↦ elim (cases_lt n (2 * (l - k))) [
-        | inl far' ↦
-            let parts = same_from_place (n - (j - i)) j (n - (l - k)) l n jn ln (rw (pair-far n i j far, pair-far n k l far') at same) in
-            (omega (arith, parts), parts.1)
-        | inr near' ↦
-            let parts = same_from_place (n - (j - i)) j (l - k) k n jn (omega arith) (rw (pair-far n i j far, pair-near n k l near') at same) in
-            absurd (omega (arith, parts))
-      ]
-      | inr near ↦ elim (cases_lt n (2 * (l - k))) [
-        | inl far' ↦
-            let parts = same_from_place (j - i) i (n - (l - k)) l n (omega arith) ln (rw (pair-near n i j near, pair-far n k l far') at same) in
-            absurd (omega (arith, parts))
-        | inr near' ↦
-            let parts = same_from_place (j - i) i (l - k) k n (omega arith) (omega arith) (rw (pair-near n i j near, pair-near n k l near') at same) in
-            (parts.1, omega (arith, parts))
-      ]
-    ]
+    grind (arith, nat_tests, same, same_from_place (j - i) i (l - k) k n, same_from_place (j - i) i (n - (l - k)) l n, same_from_place (n - (j - i)) j (l - k) k n,
+    same_from_place (n - (j - i)) j (n - (l - k)) l n)
 
 -- no two pairs have the same number
 pub pair-alone : (n i j k l : ℕ) → i ≤ j → j < n → k ≤ l → l < n → number_of_pair n i j ≡ number_of_pair n k l → (i ≡ k) × (j ≡ l)
