@@ -13,6 +13,7 @@ ghost use Rattle.p3_util_fast.specs.Tiles.{AreTiles, IsTile, TileTurned, TilesEx
 
 mod slices;
 
+use crate::registers::tiles::exchange_singly;
 use p3_util_kernels::places::{Cells, Places, Source, len_fits};
 
 /// A block of a matrix, and where its transpose goes.
@@ -45,16 +46,13 @@ pub trait Tiled: Places {
     /// way to do this than 64 calls of `exchange`.
     #[inline(always)]
     fn exchange_tiles(&mut self, x: [usize; 8], y: [usize; 8])
+    where
+        Self: Sized,
         requires { AreTiles x y (length (Self.items self.old)) }
         ensures exchanged { TilesExchanged 64 x y (Self.items self.old) (Self.items self.new) }
         ensures holder { Self.same_holder 64 self.old self.new }
     {
-        len_fits(self.len());
-        for r in 0..8 {
-            for c in 0..8 {
-                self.exchange(x[r] + c, y[c] + r);
-            }
-        }
+        exchange_singly(self, x, y);
     }
 
     /// Transposes a tile of 8 by 8 items in place. For all r < c, the item in row r and column c is exchanged with the

@@ -13,6 +13,7 @@ use crate::width::Index as usize;
 mod slices;
 
 use crate::kernels::places::{Cells, Places, Source, len_fits};
+use crate::kernels::registers::tiles::exchange_singly;
 
 /// A block of a matrix, and where its transpose goes.
 ///
@@ -41,13 +42,11 @@ pub(crate) trait Tiled: Places {
     /// row r of the other the 8 places from `y[r]` on. No two of these 16 rows may overlap. A holder may have a faster
     /// way to do this than 64 calls of `exchange`.
     #[inline(always)]
-    fn exchange_tiles(&mut self, x: [usize; 8], y: [usize; 8]) {
-        len_fits(self.len());
-        for r in 0..8 {
-            for c in 0..8 {
-                self.exchange(x[r as core::primitive::usize] + c, y[c as core::primitive::usize] + r);
-            }
-        }
+    fn exchange_tiles(&mut self, x: [usize; 8], y: [usize; 8])
+    where
+        Self: Sized,
+    {
+        exchange_singly(self, x, y);
     }
 
     /// Transposes a tile of 8 by 8 items in place. For all r < c, the item in row r and column c is exchanged with the

@@ -1,7 +1,7 @@
 -- Two tiles are exchanged with each other's mirror image, or one tile is transposed, item by item.
 use Rattle.std.proofs.Common.{◌≡◌, ◌≢◌, ℕ, ◌+◌, ◌*◌, ◌<◌, ◌≤◌, ◌⊎◌, List, length, slice_index, inl, inr, refl, sym, ap, ◌∙◌, swap, arith}
 use Rattle.std.proofs.lemmas.List.Edits.{length-swap}
-use Rattle.p3_util_fast.specs.Tiles.{AreTiles, IsTile, TileTurned, TilesExchanged}
+use Rattle.p3_util_fast.specs.Tiles.{AreTiles, IsTile, TileTurned}
 use Rattle.p3_util_fast.specs.Registers.{ItemsExchanged}
 use Rattle.p3_util_kernels.proofs.PlacesLemmas.Exchange.{slice_get-swap_first, slice_get-swap_second, slice_get-swap_other}
 
@@ -77,15 +77,6 @@ module _ (x y : List ℕ) (len : ℕ) (tiles : AreTiles x y len) where
     (λ e. let at = one_row x v w r c tiles.first_apart hv hw hr hc (sym e) in other at, λ e. places-apart r c w v hr hc hw hv e),
     (λ e. places-apart v w c r hv hw hc hr (sym e), λ e. let at = one_row y w v c r tiles.second_apart hw hv hc hr (sym e) in other (at.1, at.0)),
   )
-
-  -- one more item is exchanged
-  pub TilesExchanged-more : {A : Type 0} (r c : ℕ) (old now next : List A) → len ≡ length old → r < 8 → c < 8
-      → TilesExchanged (8 * r + c) x y old now → next ≡ swap now (slice_index x r + c) (slice_index y c + r)
-      → TilesExchanged (8 * r + (c + 1)) x y old next
-  TilesExchanged-more r c old now next all hr hc before step =
-      ItemsExchanged-joined x y _ other_places _ (IsItem r c) _ old now next (λ a b v w ha hb hv hw h k e. omega (arith, k, e))
-      (λ a b ha hb h. grind arith) (λ a b ha hb h. omega arith) (λ a b ha hb k. omega (arith, k)) before
-      (ItemsExchanged-one x y r c now next hr hc (omega (arith, before.same_length, tiles.first_inside r hr)) (omega (arith, before.same_length, tiles.second_inside c hc)) step)
 
 module _ (x : List ℕ) (len : ℕ) (tile : IsTile x len) where
   -- the places of an item and of its mirror image belong to no other item

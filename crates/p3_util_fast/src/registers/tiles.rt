@@ -140,7 +140,7 @@ fn turn_squares<T, D: Register<T>, M: Runs<T, D>>(list: &mut M, x: [usize; 8], s
 
 /// Exchanges two tiles item by item, in squares of 4 by 4.
 #[inline(always)]
-fn exchange_singly<M: Places>(list: &mut M, x: [usize; 8], y: [usize; 8])
+pub(crate) fn exchange_singly<M: Places>(list: &mut M, x: [usize; 8], y: [usize; 8])
     requires { AreTiles x y (length (M.items list.old)) }
     ensures exchanged { TilesExchanged 64 x y (M.items list.old) (M.items list.new) }
     ensures holder { M.same_holder 64 list.old list.new }

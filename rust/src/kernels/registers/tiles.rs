@@ -80,7 +80,7 @@ fn turn_squares<T, D: Register<T>, M: Runs<T, D>>(list: &mut M, x: [usize; 8], s
 
 /// Exchanges two tiles item by item, in squares of 4 by 4.
 #[inline(always)]
-fn exchange_singly<M: Places>(list: &mut M, x: [usize; 8], y: [usize; 8]) {
+pub(crate) fn exchange_singly<M: Places>(list: &mut M, x: [usize; 8], y: [usize; 8]) {
     exchange_square(list, x, y, 0, 0);
     exchange_square(list, x, y, 0, 4);
     exchange_square(list, x, y, 4, 0);
