@@ -221,9 +221,11 @@ fn put_region<M: Output, R: Ahead<Item = M::Item> + Copy>(
         return columns.put(cells, matrix, region);
     }
     if M::TESTS_INDICES {
-        let few = Blocks::<4, _>(Blocks::<2, _>(Blocks::<1, _>(Columns)));
-        let blocks = Blocks::<16, _>(Blocks::<8, _>(few));
-        return columns_at_a_time(blocks).put(cells, matrix, region);
+        let blocks = Blocks::<EIGHT_ROWS, _>(Blocks::<4, _>(Blocks::<2, _>(Blocks::<1, _>(Columns))));
+        if has_eight_rows(size, M::SIDE, width, height) {
+            return columns_at_a_time(blocks).put(cells, matrix, region);
+        }
+        return columns_at_a_time(Blocks::<16, _>(blocks)).put(cells, matrix, region);
     }
     if has_eight_rows(size, M::SIDE, width, height) {
         let strips = InRows::<EIGHT_ROWS, _, _>(Columns, Columns);

@@ -22,7 +22,8 @@
 //!
 //! Items are put past the caches on x86-64, and by blocks where they are transposed in registers. Elsewhere these rows fit no
 //! matrix. Where each index is tested, items of less than 1 KiB are not put column after column or in strips, but by blocks of 16,
-//! 8, 4, 2 and 1 rows, or of 4, 2 and 1 if they are few: the holder tests each row and column of a block, and no single item.
+//! 8, 4, 2 and 1 rows, without those of 16 where strips would have 8 rows, and only of 4, 2 and 1 if the items are few: the holder
+//! tests each row and column of a block, and no single item.
 
 use crate::kernels::strips::{HIGH_ROWS, Strips, TINY_MATRIX, UNIT};
 use crate::kernels::transpose::{Matrix, Region};
