@@ -34,10 +34,8 @@ impl<G: Debug> Error for NoRoom<G> {}
 #[inline(always)]
 #[track_caller]
 pub(crate) fn granted<T, E>(answer: Result<T, E>) -> T {
-    match answer {
-        Ok(value) => value,
-        Err(_) => panic!("out of memory"),
-    }
+    let Ok(value) = answer else { panic!("out of memory") };
+    value
 }
 
 /// A string whose calls return an error if there is no memory. `into` turns it into the `String` of `alloc`.
@@ -111,10 +109,8 @@ impl<T> Vec<T> {
     #[inline(always)]
     pub fn reserve(&mut self, items: usize) -> Result<(), AllocError> {
         // Even if there is room, `try_reserve` would be a call.
-        if self.0.capacity() - self.0.len() < items && self.0.try_reserve(items).is_err() {
-            return Err(AllocError);
-        }
-        Ok(())
+        let has_room = self.0.capacity() - self.0.len() >= items;
+        if has_room { Ok(()) } else { self.0.try_reserve(items).map_err(|_| AllocError) }
     }
 
     /// Appends `value`. There must be room for it.
