@@ -1,5 +1,9 @@
 //! The calls on integers that check a condition and then call the proved function.
 
+use crate::kernels::bits;
+use crate::width::Index;
+
+// The functions of which each number is a `usize`.
 #[cfg(target_pointer_width = "64")]
 pub use crate::kernels::bits as proved;
 #[cfg(target_pointer_width = "32")]
@@ -24,7 +28,7 @@ pub mod proved;
 pub const fn log2_strict_usize(n: usize) -> usize {
     // From `n.is_power_of_two()`, the compiler would not learn that `n` is not 0, and would make code for the logarithm of 0.
     assert!(n != 0 && n & (n - 1) == 0, "Not a power of two");
-    proved::log2_strict_usize(n)
+    bits::log2_strict_usize(n as Index) as _
 }
 
 /// The logarithm to base 3 of a power of three.
@@ -41,8 +45,8 @@ pub const fn log2_strict_usize(n: usize) -> usize {
 #[track_caller]
 pub const fn log3_strict_usize(n: usize) -> usize {
     assert!(n != 0, "log3_strict_usize: input must be non-zero");
-    assert!(proved::is_power_of_three(n), "log3_strict_usize: input is not a power of 3");
-    proved::log3_strict_usize(n)
+    assert!(bits::is_power_of_three(n as Index), "log3_strict_usize: input is not a power of 3");
+    bits::log3_strict_usize(n as Index) as _
 }
 
 /// Reverses the k low binary digits of `x` and drops the others, for an `n` of 2^k. An `n` of 1 reverses all digits.

@@ -37,30 +37,12 @@ pub const fn checked_log_size_sum(a: usize, b: usize) -> Option<(usize, usize)> 
     }
 }
 
-pub(crate) const fn log2_strict_usize(n: usize) -> usize {
-    proved::log2_strict_usize(n as u64) as usize
-}
-
-pub(crate) const fn is_power_of_three(n: usize) -> bool {
-    proved::is_power_of_three(n as u64)
-}
-
-pub(crate) const fn log3_strict_usize(n: usize) -> usize {
-    proved::log3_strict_usize(n as u64) as usize
-}
-
+/// The proved functions reverse all 64 digits if they are asked for none. Here all digits are 32, so they are asked for 1 to 32.
 pub(crate) const fn reverse_bits(x: usize, n: usize) -> usize {
-    match n.trailing_zeros() % usize::BITS {
-        0 => reverse_bits_len(x, 0),
-        _ => proved::reverse_bits(x as u64, n as u64) as usize,
-    }
+    let n = if n.trailing_zeros() % 32 == 0 { 1 << 32 } else { n as u64 };
+    proved::reverse_bits(x as u64, n) as usize
 }
 
-/// The proved function reverses all 64 digits if it is asked for none. Here all digits are 32.
 pub(crate) const fn reverse_bits_len(x: usize, bit_len: usize) -> usize {
-    let digits = match bit_len as u64 % 32 {
-        0 => 32,
-        digits => digits,
-    };
-    proved::reverse_bits_len(x as u64, digits) as usize
+    proved::reverse_bits_len(x as u64, (bit_len as u64 + 31) % 32 + 1) as usize
 }
