@@ -100,10 +100,7 @@ pub fn transpose<'a, T: Copy + Send + Sync>(
     let height = if size_of::<T>() == 0 { 0 } else { height };
     let plan = TransposePlan::new(width, height, parts, cfg!(not(feature = "checked")));
     // With the feature `checked`, a share is the columns of a part, and those of the last part may be fewer.
-    let share = match plan.count() {
-        1.. if cfg!(feature = "checked") => plan.region(0).cols() * height,
-        _ => 0,
-    };
+    let share = if cfg!(feature = "checked") && plan.count() > 0 { plan.region(0).cols() * height } else { 0 };
     let cells = SliceItems::in_shares(output, share);
     TransposeParts(PartsToRun::of(cells, plan, input))
 }
