@@ -11,7 +11,9 @@
 //!
 //! On a system of 32 bits, `narrow.rs` has the holders: those of the kernels, which check each index too.
 
+use crate::kernels::bulk::Tiled;
 use crate::kernels::reverse::fits_rows;
+use crate::kernels::rows;
 use crate::kernels::transpose::fits_matrix;
 use crate::width::Index;
 use holders::{SliceItems, SliceSource, WholeList};
@@ -117,6 +119,19 @@ pub fn transpose<T: Copy + Send + Sync>(input: &[T], output: &mut [T], width: us
     if size_of::<T>() > 0 && !threads::transpose(input, output, width, height) {
         instances::transpose_whole(SliceItems::new(output), SliceSource::new(input), cols, rows);
     }
+}
+
+/// Reverses the order of items by index bits.
+#[inline(never)]
+fn reverse_holder(items: impl Tiled) {
+    let _ = rows::reverse_rows(items, 1);
+}
+
+/// Reverses the order of rows by index bits. Not inlined, or `reverse_bytes` of `instances.rs` would save registers even where it
+/// does not run this.
+#[inline(never)]
+fn reverse_rows_of_holder(items: impl Tiled, row_width: Index) {
+    let _ = rows::reverse_rows(items, row_width);
 }
 
 #[cold]

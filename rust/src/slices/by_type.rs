@@ -1,37 +1,21 @@
 //! Kernels for each type of item, and none for each size: with the feature `checked` and on systems of 32 bits. Only `slices.rs`
 //! uses this file.
 
-use crate::kernels::bulk::Tiled;
+pub(super) use super::{reverse_holder as reverse, reverse_rows_of_holder as reverse_rows};
 pub(super) use crate::kernels::calls::transpose_whole;
-use crate::kernels::rows;
-use crate::width::Index;
 #[cfg(target_pointer_width = "64")]
-pub(super) use in_parts::{bytes_of_place, reverse_part, transpose_part};
+pub(super) use crate::kernels::parts::transpose_part;
+#[cfg(target_pointer_width = "64")]
+use crate::kernels::{bulk, parts};
 
-/// Reverses the order of items by index bits.
-#[inline(never)]
-pub(super) fn reverse(items: impl Tiled) {
-    let _ = rows::reverse_rows(items, 1);
+/// Makes the exchanges of a part, whose places are the items.
+#[cfg(target_pointer_width = "64")]
+pub(super) fn reverse_part(items: impl bulk::Tiled, _: usize, part: parts::Part<parts::ReversalPlan>) {
+    let _ = parts::reverse_part(items, part);
 }
 
-/// Reverses the order of rows by index bits.
-#[inline(never)]
-pub(super) fn reverse_rows(items: impl Tiled, row_width: Index) {
-    let _ = rows::reverse_rows(items, row_width);
-}
-
+/// An item is a place.
 #[cfg(target_pointer_width = "64")]
-mod in_parts {
-    pub(in crate::slices) use crate::kernels::parts::transpose_part;
-    use crate::kernels::parts::{self, Part, ReversalPlan};
-
-    /// Makes the exchanges of a part, whose places are the items.
-    pub(in crate::slices) fn reverse_part(items: impl super::Tiled, _: usize, part: Part<ReversalPlan>) {
-        let _ = parts::reverse_part(items, part);
-    }
-
-    /// An item is a place.
-    pub(in crate::slices) fn bytes_of_place(size: usize, _: usize) -> usize {
-        size
-    }
+pub(super) fn bytes_of_place(size: usize, _: usize) -> usize {
+    size
 }

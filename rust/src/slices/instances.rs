@@ -8,12 +8,11 @@
 //! If the processor does not move unaligned bytes as fast as aligned ones, each type has kernels of its own.
 
 use super::holders::{Bytes, Items, MOVES_BYTES, SliceItems, SliceSource, USES_REGISTERS, Vector};
-use crate::kernels::bulk::Tiled;
+use super::{reverse_holder, reverse_rows_of_holder};
 use crate::kernels::calls;
 use crate::kernels::choice::LONG_BYTES;
 use crate::kernels::parts::{self, Part, ReversalPlan, TransposePlan};
 use crate::kernels::registers::{Pair, Two};
-use crate::kernels::rows;
 
 /// `by_size!(size)` is whether the size is in this table. `by_size!(size, holder = list => call, _ => other)` is `call` if
 /// it is, and otherwise `other`. In `call`, `holder` is the holder of the list as items of this size.
@@ -65,19 +64,6 @@ pub(super) fn reverse_rows<F>(items: SliceItems<F>, row_width: usize) {
     } else {
         reverse_rows_of_holder(items, row_width);
     }
-}
-
-/// Reverses the order of items by index bits.
-#[inline(never)]
-fn reverse_holder(items: impl Tiled) {
-    let _ = rows::reverse_rows(items, 1);
-}
-
-/// Reverses the order of rows by index bits. Not inlined, or [`reverse_bytes`] would save registers even where it does not run
-/// this.
-#[inline(never)]
-fn reverse_rows_of_holder(items: impl Tiled, row_width: usize) {
-    let _ = rows::reverse_rows(items, row_width);
 }
 
 /// A list of items or rows that are taken as bytes.
