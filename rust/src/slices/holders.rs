@@ -21,9 +21,7 @@ use crate::kernels::calls::{LINE, Output};
 use crate::kernels::lines::Lines;
 use crate::kernels::parts::Shared;
 use crate::kernels::places::{Cells, Places, Source};
-use crate::kernels::registers::blocks::{
-    LinesOfCells, RunsOfCells, SquaresOfCells, put_block_in_lines, put_block_in_squares,
-};
+use crate::kernels::registers::blocks::{self, LinesOfCells, RunsOfCells, SquaresOfCells};
 use crate::kernels::registers::tiles::{self, RunsOfPlaces};
 use crate::kernels::registers::{Loads, Register, Runs, Single, Two};
 use crate::kernels::transpose::{Matrix, Region};
@@ -68,8 +66,7 @@ impl<'a, T, D, const PAST_CACHES: bool> SliceItems<'a, T, D, PAST_CACHES> {
     /// The `len` items from `first` on. Whoever uses the holder has borrowed them.
     #[inline(always)]
     fn of(first: *mut T, len: usize) -> Self {
-        let slice = PhantomData;
-        SliceItems { first, len, slice }
+        SliceItems { first, len, slice: PhantomData }
     }
 
     /// The same items, of which tiles are exchanged. This holder has no registers of its own, so it stores a half by [`Run::write`],
@@ -78,11 +75,6 @@ impl<'a, T, D, const PAST_CACHES: bool> SliceItems<'a, T, D, PAST_CACHES> {
     #[inline(always)]
     fn places(&mut self) -> SliceItems<'_, T> {
         SliceItems::of(self.first, self.len)
-    }
-
-    #[inline(always)]
-    fn prefetch(&self, place: usize) {
-        cache::prefetch(self.first.wrapping_add(place).cast());
     }
 }
 
@@ -100,23 +92,12 @@ impl<'a, T> SliceItems<'a, T> {
         SliceItems::new(slice)
     }
 
-    /// The bytes of the items, `N` at a time.
+    /// The bytes of the items, `N` at a time. The type of the holder says in which registers they are transposed. Only tests ask for
+    /// one that stores past the caches.
     #[inline(always)]
-    pub(super) fn in_bytes<const N: usize>(self) -> SliceItems<'a, Bytes<N>> {
+    pub(super) fn in_bytes<const N: usize, D, const PAST: bool>(self) -> SliceItems<'a, Bytes<N>, D, PAST> {
         // This many groups of `N` bytes are within the slice. `SliceItems` borrows it for as long as it is borrowed.
         SliceItems::of(self.first.cast(), self.len * size_of::<T>() / N)
-    }
-
-    #[inline(always)]
-    pub(super) fn in_registers<D: Register<T>>(self) -> SliceItems<'a, T, D> {
-        SliceItems::of(self.first, self.len)
-    }
-}
-
-impl<'a, T, D> SliceItems<'a, T, D> {
-    #[inline(always)]
-    pub(super) fn past_caches(self) -> SliceItems<'a, T, D, true> {
-        SliceItems::of(self.first, self.len)
     }
 }
 
@@ -155,7 +136,7 @@ impl<T: Copy, D: Register<T, Half: Run>> Output for SliceItems<'_, T, D> {
 
     #[inline(always)]
     fn put_past_caches<R: Ahead<Item = T> + Copy>(self, lines: Lines, matrix: Matrix<R>, region: Region) -> Self {
-        let cells = lines.put(self.past_caches(), matrix, region);
+        let cells = lines.put(SliceItems::<T, D, true>::of(self.first, self.len), matrix, region);
         cache::fence();
         SliceItems::of(cells.first, cells.len)
     }
@@ -235,8 +216,9 @@ impl<F, D: Register<F, Half: Run>> Tiled for SliceItems<'_, F, D> {
     #[inline(always)]
     fn expect_tiles(&self, x: [usize; 8], y: [usize; 8]) {
         let size = size_of::<F>();
-        // Items of 1 byte take no less time if they are fetched early. Tiles of large items fill a cache.
-        if !(2..=128).contains(&size) || self.len * size < FAR_BYTES {
+        // Items of 1 byte take no less time if they are fetched early. Tiles of large items fill a cache. A list of fewer than
+        // 2^23 bytes fits in one.
+        if !(2..=128).contains(&size) || self.len * size < 1 << 23 {
             return;
         }
         for row in x.into_iter().chain(y) {
@@ -252,9 +234,6 @@ impl<F, D: Register<F, Half: Run>> Tiled for SliceItems<'_, F, D> {
 }
 
 impl<F, D: Register<F, Half: Run>> RunsOfPlaces<F, D> for SliceItems<'_, F> {}
-
-/// A list of at least this many bytes does not fit in a cache.
-const FAR_BYTES: usize = 1 << 23;
 
 impl<T: Copy, D: Register<T>, const PAST_CACHES: bool> Cells for SliceItems<'_, T, D, PAST_CACHES> {
     type Item = T;
@@ -289,9 +268,9 @@ impl<T: Copy, D: Register<T, Half: Run>, const PAST_CACHES: bool> Blocked for Sl
     fn put_block<R: Ahead<Item = T>>(&mut self, source: &R, block: Block) {
         let runs = SliceSource::new(source.as_slice().expect("a whole slice"));
         if PAST_CACHES {
-            put_block_in_lines(self, &runs, source, block);
+            blocks::put_block_in_lines(self, &runs, source, block);
         } else {
-            put_block_in_squares(self, &runs, source, block);
+            blocks::put_block_in_squares(self, &runs, source, block);
         }
     }
 }
@@ -316,11 +295,11 @@ impl<T: Copy, D: Register<T, Half: Run>, const PAST_CACHES: bool> SquaresOfCells
             return;
         }
         // With `opt-level = "s"` a loop would not be unrolled, and with "z" a closure would not be inlined.
-        let (next, height) = (square.to.wrapping_add(LINE / size), square.height);
-        self.prefetch(next);
-        self.prefetch(next.wrapping_add(height));
-        self.prefetch(next.wrapping_add(height.wrapping_mul(2)));
-        self.prefetch(next.wrapping_add(height.wrapping_mul(3)));
+        let (next, height) = (self.first.wrapping_add(square.to.wrapping_add(LINE / size)), square.height);
+        cache::prefetch(next);
+        cache::prefetch(next.wrapping_add(height));
+        cache::prefetch(next.wrapping_add(height.wrapping_mul(2)));
+        cache::prefetch(next.wrapping_add(height.wrapping_mul(3)));
     }
 }
 
@@ -440,7 +419,7 @@ impl<T: Copy> Ahead for SliceSource<'_, T> {
 
     #[inline(always)]
     fn expect(&self, i: usize) {
-        cache::prefetch(self.items.as_ptr().wrapping_add(i).cast());
+        cache::prefetch(self.items.as_ptr().wrapping_add(i));
     }
 }
 

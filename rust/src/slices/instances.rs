@@ -28,11 +28,11 @@ macro_rules! by_size {
     $size:expr, $holder:ident = $list:expr => $call:expr, _ => $other:expr) => {
         match $size {
             $($short if USES_REGISTERS => {
-                let $holder = $list.in_bytes::<$short>().in_registers::<$rows>();
+                let $holder: SliceItems<Bytes<$short>, $rows> = $list.in_bytes();
                 $call
             })*
             $($bytes if MOVES_BYTES => {
-                let $holder = $list.in_bytes::<$bytes>();
+                let $holder: SliceItems<Bytes<$bytes>> = $list.in_bytes();
                 $call
             })*
             _ => $other,

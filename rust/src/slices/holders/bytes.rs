@@ -86,8 +86,7 @@ pub(super) unsafe fn swap_bytes(x: *mut u8, y: *mut u8, len: usize) {
 /// The bytes at `from` are valid for reads and those at `to` for writes, and if `BACK` is true, both for both. They do
 /// not overlap, or are the same bytes.
 #[inline(always)]
-pub(super) unsafe fn move_bytes<const BACK: bool>(from: *mut u8, to: *mut u8, done: usize, len: usize) {
-    let mut done = done;
+pub(super) unsafe fn move_bytes<const BACK: bool>(from: *mut u8, to: *mut u8, mut done: usize, len: usize) {
     // SAFETY: each part is within the `len` bytes.
     unsafe {
         while len - done >= size_of::<Widest>() {

@@ -2,7 +2,7 @@
 
 /// Asks the processor to read a cache line. Any address may be given.
 #[inline(always)]
-pub(super) fn prefetch(address: *const u8) {
+pub(super) fn prefetch<T>(address: *const T) {
     // SAFETY: this instruction changes no memory and does not fail, whatever the address is.
     #[cfg(all(target_arch = "x86_64", target_feature = "sse2"))]
     unsafe {

@@ -13,32 +13,24 @@ use super::bytes::{Bytes, MOVES_BYTES, Unaligned};
 use crate::kernels::registers;
 
 #[cfg(all(target_arch = "aarch64", target_feature = "neon", target_endian = "little"))]
-mod processor {
-    pub(super) use core::arch::aarch64::uint8x16_t as Raw;
-    pub(super) const HAS_REGISTERS: bool = true;
-}
-
+use core::arch::aarch64::uint8x16_t as Raw;
 #[cfg(all(target_arch = "x86_64", target_feature = "sse2"))]
-mod processor {
-    pub(super) use core::arch::x86_64::__m128i as Raw;
-    pub(super) const HAS_REGISTERS: bool = true;
-}
+use core::arch::x86_64::__m128i as Raw;
 
 /// Only a name for 16 bytes.
 #[cfg(not(any(
     all(target_arch = "aarch64", target_feature = "neon", target_endian = "little"),
     all(target_arch = "x86_64", target_feature = "sse2")
 )))]
-mod processor {
-    pub(super) type Raw = u128;
-    pub(super) const HAS_REGISTERS: bool = false;
-}
+type Raw = u128;
 
-/// Whether items are transposed in registers here. Miri does not support assembly.
-pub(crate) const USES_REGISTERS: bool = processor::HAS_REGISTERS && MOVES_BYTES && cfg!(not(miri));
+/// Whether items are transposed in registers here, which are those of aarch64 (`neon`) and of x86-64 (`sse2`). No other processor
+/// has [`MOVES_BYTES`]. Miri does not support assembly.
+pub(crate) const USES_REGISTERS: bool = MOVES_BYTES
+    && cfg!(all(any(target_feature = "neon", target_feature = "sse2"), target_endian = "little", not(miri)));
 
 /// 16 bytes.
-pub(crate) type Vector = MaybeUninit<processor::Raw>;
+pub(crate) type Vector = MaybeUninit<Raw>;
 
 /// 16 bytes, or with AVX 32.
 #[cfg(all(target_arch = "x86_64", target_feature = "avx"))]

@@ -24,7 +24,7 @@ impl<'a, T: 'a, const N: usize, D: Register<Bytes<N>, Half: Run>> Hold<'a, T> fo
     type Holder = SliceItems<'a, Bytes<N>, D>;
 
     fn hold(list: &'a mut [T]) -> Self::Holder {
-        SliceItems::new(list).in_bytes().in_registers()
+        SliceItems::new(list).in_bytes()
     }
 }
 
@@ -42,8 +42,8 @@ pub(in crate::slices) fn put_past_caches<const N: usize, D: Register<Bytes<N>, H
     source: &[[u8; N]],
     block: Block,
 ) {
-    let cells = SliceItems::new(cells).in_bytes().in_registers::<D>();
-    cells.past_caches().put_block(&SliceSource::new(source).in_bytes(), block);
+    let mut cells: SliceItems<Bytes<N>, D, true> = SliceItems::new(cells).in_bytes();
+    cells.put_block(&SliceSource::new(source).in_bytes(), block);
 }
 
 /// A block of this many rows is stored past the caches only if each of its columns is a line of the output. If it has one column,
@@ -57,9 +57,9 @@ fn blocks_of_lines() {
             for cols in [1, 2, line] {
                 let block = block([line, cols], [0, line], [to, height]);
                 let is_line = to % line == 0 && (cols == 1 || height % line == 0);
-                let cells = SliceItems::new(&mut list.0).in_registers::<D>().past_caches();
+                let cells = SliceItems::new(&mut list.0).in_bytes::<N, D, true>();
                 assert_eq!(cells.may_stream_lines(block), is_line, "{cols} {to} {height}");
-                assert!(!SliceItems::new(&mut list.0).past_caches().may_stream_lines(block));
+                assert!(!SliceItems::new(&mut list.0).in_bytes::<N, Two<()>, true>().may_stream_lines(block));
             }
         }
     }
@@ -80,7 +80,7 @@ fn lists_in_bytes() {
             let mut list = std::vec![[0u8; ITEM]; len];
             let source = SliceSource::new(&list).in_bytes::<N>();
             assert_eq!(source.as_slice().unwrap().len(), len * ITEM / N, "{len} of {ITEM} by {N}");
-            let places = SliceItems::new(&mut list).in_bytes::<N>();
+            let places: SliceItems<Bytes<N>> = SliceItems::new(&mut list).in_bytes();
             assert_eq!(Places::len(&places), len * ITEM / N, "{len} of {ITEM} by {N}");
         }
     }
@@ -101,7 +101,7 @@ fn shuffles() {
         let lists: [Vec<[u8; N]>; 2] =
             [0, 16].map(|first| (0..16 / N).map(|i| from_fn(|byte| (first + N * i + byte) as u8)).collect());
         let mut list = lists.concat();
-        let mut runs = SliceItems::new(&mut list).in_bytes();
+        let mut runs: SliceItems<Bytes<N>> = SliceItems::new(&mut list).in_bytes();
         let [a, b] = [0, 16 / N].map(|place| Loads::<Bytes<N>, Pair<Items<N>>>::load(&runs, place));
         Runs::<Bytes<N>, Pair<Items<N>>>::store(&mut runs, 0, a.low(b));
         Runs::<Bytes<N>, Pair<Items<N>>>::store(&mut runs, 16 / N, a.high(b));
@@ -111,14 +111,14 @@ fn shuffles() {
         let (first, second) = a.halves();
         let first = Items::<N>::from_half(first).halves().0;
         let mut list = lists[0].clone();
-        let mut runs = SliceItems::new(&mut list).in_bytes();
+        let mut runs: SliceItems<Bytes<N>> = SliceItems::new(&mut list).in_bytes();
         Runs::<Bytes<N>, Items<N>>::store(&mut runs, 0, second);
         Runs::<Bytes<N>, Items<N>>::store(&mut runs, 8 / N, first);
         let swapped = [&lists[0][8 / N..], &lists[0][..8 / N]].concat();
         assert_eq!(list, swapped);
         // From registers, to any address.
         let mut list = [&lists[0][..], &lists[0]].concat();
-        let mut runs = SliceItems::new(&mut list).in_bytes().in_registers::<Items<N>>();
+        let mut runs: SliceItems<Bytes<N>, Items<N>> = SliceItems::new(&mut list).in_bytes();
         Runs::<Bytes<N>, Items<N>>::store(&mut runs, 1, second);
         Runs::<Bytes<N>, Items<N>>::store(&mut runs, 1 + 8 / N, first);
         assert_eq!(list, [&lists[0][..1], &swapped, &lists[0][1..]].concat());
@@ -164,8 +164,7 @@ fn runs_outside_a_list() {
 fn stores_past_the_caches() {
     let mut list = Aligned([0u32; 600]);
     for len in 16..=20 {
-        let list = SliceItems::new(&mut list.0[..len]).in_bytes();
-        let mut places = list.in_registers::<Pair<Items<4>>>().past_caches();
+        let mut places: SliceItems<Bytes<4>, Pair<Items<4>>, true> = SliceItems::new(&mut list.0[..len]).in_bytes();
         let run = Loads::<Bytes<4>, Pair<Items<4>>>::load(&places, 0);
         for place in 0..=20 {
             let is_wrong = place + 4 > len || place % 4 != 0;

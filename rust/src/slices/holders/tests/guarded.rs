@@ -112,7 +112,8 @@ fn steps<const N: usize>() {
             let mut runs = Runs::<N>::new(2, len, ends_with_page);
             SliceItems::new(runs.list()).exchange_runs(0, GAP, len);
             runs.has(|run, k| (1 - run, k));
-            SliceItems::new(runs.list()).in_bytes::<1>().exchange_runs(GAP * N, 0, len * N);
+            let mut bytes: SliceItems<Bytes<1>> = SliceItems::new(runs.list()).in_bytes();
+            bytes.exchange_runs(GAP * N, 0, len * N);
             runs.has(|run, k| (run, k));
         }
 
