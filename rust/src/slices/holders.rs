@@ -14,7 +14,7 @@ pub(super) use self::SliceItems as WholeList;
 pub(super) use bytes::{Bytes, MOVES_BYTES};
 use bytes::{move_bytes, swap_bytes, write_item};
 pub(crate) use registers::USES_REGISTERS;
-pub(super) use registers::{Items, Run, Vector};
+pub(super) use registers::{Items, OfRuns, Run, Vector};
 
 use crate::kernels::bulk::{Ahead, Block, Blocked, Tiled};
 use crate::kernels::calls::{LINE, Output};
@@ -108,7 +108,7 @@ impl<T> Shared for SliceItems<'_, T> {
     }
 }
 
-impl<T: Copy, D: Register<T, Half: Run>> Output for SliceItems<'_, T, D> {
+impl<T: Copy, D: OfRuns<T>> Output for SliceItems<'_, T, D> {
     const SIZE: usize = size_of::<T>();
     const IS_INLINED: bool = cfg!(not(debug_assertions));
     const TESTS_INDICES: bool = false;
@@ -182,7 +182,7 @@ impl<F, D: Register<F>> Places for SliceItems<'_, F, D> {
 
 /// With debug assertions, functions that use registers have frames of their own: there a register is on the stack in each
 /// function that it goes through.
-impl<F, D: Register<F, Half: Run>> Tiled for SliceItems<'_, F, D> {
+impl<F, D: OfRuns<F>> Tiled for SliceItems<'_, F, D> {
     #[inline(always)]
     fn exchange_runs(&mut self, i: usize, j: usize, len: usize) {
         let n = self.len;
@@ -233,7 +233,7 @@ impl<F, D: Register<F, Half: Run>> Tiled for SliceItems<'_, F, D> {
     }
 }
 
-impl<F, D: Register<F, Half: Run>> RunsOfPlaces<F, D> for SliceItems<'_, F> {}
+impl<F, D: OfRuns<F>> RunsOfPlaces<F, D> for SliceItems<'_, F> {}
 
 impl<T: Copy, D: Register<T>, const PAST_CACHES: bool> Cells for SliceItems<'_, T, D, PAST_CACHES> {
     type Item = T;
@@ -262,7 +262,7 @@ impl<T: Copy, D: Register<T>, const PAST_CACHES: bool> Cells for SliceItems<'_, 
     }
 }
 
-impl<T: Copy, D: Register<T, Half: Run>, const PAST_CACHES: bool> Blocked for SliceItems<'_, T, D, PAST_CACHES> {
+impl<T: Copy, D: OfRuns<T>, const PAST_CACHES: bool> Blocked for SliceItems<'_, T, D, PAST_CACHES> {
     #[cfg_attr(debug_assertions, inline(never))]
     #[cfg_attr(not(debug_assertions), inline(always))]
     fn put_block<R: Ahead<Item = T>>(&mut self, source: &R, block: Block) {
@@ -275,14 +275,9 @@ impl<T: Copy, D: Register<T, Half: Run>, const PAST_CACHES: bool> Blocked for Sl
     }
 }
 
-impl<T: Copy, D: Register<T, Half: Run>, const PAST_CACHES: bool> RunsOfCells<T, D>
-    for SliceItems<'_, T, D, PAST_CACHES>
-{
-}
+impl<T: Copy, D: OfRuns<T>, const PAST_CACHES: bool> RunsOfCells<T, D> for SliceItems<'_, T, D, PAST_CACHES> {}
 
-impl<T: Copy, D: Register<T, Half: Run>, const PAST_CACHES: bool> SquaresOfCells<T, D>
-    for SliceItems<'_, T, D, PAST_CACHES>
-{
+impl<T: Copy, D: OfRuns<T>, const PAST_CACHES: bool> SquaresOfCells<T, D> for SliceItems<'_, T, D, PAST_CACHES> {
     const SQUARE: usize = <SliceItems<T, D> as Output>::SIDE;
 
     /// Prefetches the next cache line of each column of a square of 4 by 4. The processor makes its stores in order, so a store
@@ -305,7 +300,7 @@ impl<T: Copy, D: Register<T, Half: Run>, const PAST_CACHES: bool> SquaresOfCells
 
 /// Whether half a register `D` has the bytes of a run, so that a step reads or writes all of the run and nothing else. The half
 /// `()` has no bytes: with it, a step would do nothing, and a kernel makes none. Its squares have one row, and it fills no line.
-const fn fills_a_run<T, D: Register<T, Half: Run>>() -> bool {
+const fn fills_a_run<T, D: OfRuns<T>>() -> bool {
     D::Half::BYTES == D::SIDE * size_of::<T>() || D::Half::BYTES == 0
 }
 
@@ -315,7 +310,7 @@ const fn fills_a_run<T, D: Register<T, Half: Run>>() -> bool {
 /// ends. A run of a source `may` be anywhere in the list. The functions of `kernels::registers` are proved to touch no other
 /// run, whatever `may` and `may_stream` are. So that method may call them if it names no place but those of its step, and no
 /// run that ends after the source.
-impl<T, E, D: Register<T, Half: Run>, const PAST_CACHES: bool> Loads<T, D> for SliceItems<'_, T, E, PAST_CACHES> {
+impl<T, E, D: OfRuns<T>, const PAST_CACHES: bool> Loads<T, D> for SliceItems<'_, T, E, PAST_CACHES> {
     #[inline(always)]
     fn load(&self, place: usize) -> D::Half {
         const { assert!(fills_a_run::<T, D>()) }
@@ -325,7 +320,7 @@ impl<T, E, D: Register<T, Half: Run>, const PAST_CACHES: bool> Loads<T, D> for S
     }
 }
 
-impl<T, E, D: Register<T, Half: Run>, const PAST_CACHES: bool> Runs<T, D> for SliceItems<'_, T, E, PAST_CACHES> {
+impl<T, E, D: OfRuns<T>, const PAST_CACHES: bool> Runs<T, D> for SliceItems<'_, T, E, PAST_CACHES> {
     #[inline(always)]
     fn store(&mut self, place: usize, run: D::Half) {
         const { assert!(fills_a_run::<T, D>()) }
@@ -363,9 +358,7 @@ impl<T, E, D: Register<T, Half: Run>, const PAST_CACHES: bool> Runs<T, D> for Sl
     }
 }
 
-impl<T: Copy, D: Register<T, Half: Run>, const PAST_CACHES: bool> LinesOfCells<T, D>
-    for SliceItems<'_, T, D, PAST_CACHES>
-{
+impl<T: Copy, D: OfRuns<T>, const PAST_CACHES: bool> LinesOfCells<T, D> for SliceItems<'_, T, D, PAST_CACHES> {
     /// Each column of the block has to be a line of the output. It has four runs, by the `requires` of this method.
     #[inline(always)]
     fn may_stream_lines(&self, block: Block) -> bool {
@@ -423,7 +416,7 @@ impl<T: Copy> Ahead for SliceSource<'_, T> {
     }
 }
 
-impl<T, D: Register<T, Half: Run>> Loads<T, D> for SliceSource<'_, T> {
+impl<T, D: OfRuns<T>> Loads<T, D> for SliceSource<'_, T> {
     #[inline(always)]
     fn load(&self, place: usize) -> D::Half {
         const { assert!(fills_a_run::<T, D>()) }

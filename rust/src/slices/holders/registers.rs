@@ -114,6 +114,11 @@ pub(crate) trait Run: Copy {
     }
 }
 
+/// Registers whose halves are runs.
+pub(crate) trait OfRuns<T>: registers::Register<T, Half: Run> {}
+
+impl<T, D: registers::Register<T, Half: Run>> OfRuns<T> for D {}
+
 impl Run for () {}
 
 impl Run for Vector {}
