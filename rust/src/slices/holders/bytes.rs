@@ -37,9 +37,7 @@ pub(super) unsafe fn write_item<T>(to: *mut T, item: T) {
         if const { MOVES_BYTES && size_of::<T>() <= 64 && cfg!(not(debug_assertions)) } {
             let item = MaybeUninit::new(item);
             let (from, to) = (item.as_ptr().cast_mut().cast(), to.cast());
-            if const { size_of::<T>() >= 16 } {
-                write_registers::<T>(from, to);
-            }
+            write_registers::<T>(from, to);
             move_bytes::<false>(from, to, const { size_of::<T>() / 16 * 16 }, size_of::<T>());
         } else {
             to.write(item);
