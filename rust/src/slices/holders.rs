@@ -370,20 +370,18 @@ impl<T: Copy, D: OfRuns<T>, const PAST_CACHES: bool> LinesOfCells<T, D> for Slic
 
 /// The items of a slice, which are only read.
 #[derive(Clone, Copy)]
-pub(super) struct SliceSource<'a, T> {
-    items: &'a [T],
-}
+pub(super) struct SliceSource<'a, T>(&'a [T]);
 
 impl<'a, T: Copy> SliceSource<'a, T> {
     pub(super) fn new(items: &'a [T]) -> Self {
-        SliceSource { items }
+        SliceSource(items)
     }
 
     #[inline(always)]
     pub(super) fn in_bytes<const N: usize>(self) -> SliceSource<'a, Bytes<N>> {
         // SAFETY: this many groups of `N` bytes are within the slice. No item changes as long as the slice is
         // borrowed, because a `Copy` type has no `UnsafeCell`.
-        SliceSource::new(unsafe { from_raw_parts(self.items.as_ptr().cast(), size_of_val(self.items) / N) })
+        SliceSource::new(unsafe { from_raw_parts(self.0.as_ptr().cast(), size_of_val(self.0) / N) })
     }
 }
 
@@ -391,28 +389,28 @@ impl<T: Copy> Source for SliceSource<'_, T> {
     type Item = T;
 
     fn len(&self) -> usize {
-        self.items.len()
+        self.0.len()
     }
 
     #[inline(always)]
     fn at(&self, i: usize) -> T {
         if cfg!(debug_assertions) {
-            return self.items[i];
+            return self.0[i];
         }
         // SAFETY: the index is within the slice, by the `requires` of `Source::at`.
-        unsafe { *self.items.get_unchecked(i) }
+        unsafe { *self.0.get_unchecked(i) }
     }
 }
 
 impl<T: Copy> Ahead for SliceSource<'_, T> {
     #[inline(always)]
     fn as_slice(&self) -> Option<&[T]> {
-        Some(self.items)
+        Some(self.0)
     }
 
     #[inline(always)]
     fn expect(&self, i: usize) {
-        cache::prefetch(self.items.as_ptr().wrapping_add(i));
+        cache::prefetch(self.0.as_ptr().wrapping_add(i));
     }
 }
 
@@ -420,8 +418,8 @@ impl<T, D: OfRuns<T>> Loads<T, D> for SliceSource<'_, T> {
     #[inline(always)]
     fn load(&self, place: usize) -> D::Half {
         const { assert!(fills_a_run::<T, D>()) }
-        debug_assert!(place <= self.items.len() && D::SIDE <= self.items.len() - place);
+        debug_assert!(place <= self.0.len() && D::SIDE <= self.0.len() - place);
         // SAFETY: as for `SliceItems`.
-        unsafe { D::Half::read(self.items.as_ptr().wrapping_add(place).cast()) }
+        unsafe { D::Half::read(self.0.as_ptr().wrapping_add(place).cast()) }
     }
 }

@@ -2,15 +2,13 @@
 
 /// Asks the processor to read a cache line. Any address may be given.
 #[inline(always)]
-pub(super) fn prefetch<T>(address: *const T) {
+pub(super) fn prefetch<T>(_address: *const T) {
     // SAFETY: this instruction changes no memory and does not fail, whatever the address is.
     #[cfg(all(target_arch = "x86_64", target_feature = "sse2"))]
     unsafe {
         use core::arch::x86_64::{_MM_HINT_T0, _mm_prefetch};
-        _mm_prefetch::<_MM_HINT_T0>(address.cast());
+        _mm_prefetch::<_MM_HINT_T0>(_address.cast());
     }
-    #[cfg(not(all(target_arch = "x86_64", target_feature = "sse2")))]
-    let _ = address;
 }
 
 /// Waits until the stores past the caches are done. They are not ordered with other stores (Intel's manual, volume 2,
