@@ -122,6 +122,10 @@ impl<T> Vec<T> {
     pub fn as_slice(&self) -> &[T] {
         &self.0
     }
+
+    pub fn into_iter(self) -> alloc::vec::IntoIter<T> {
+        self.0.into_iter()
+    }
 }
 
 impl<T> Deref for Vec<T> {
@@ -136,16 +140,6 @@ impl<T> Deref for Vec<T> {
 impl<T> DerefMut for Vec<T> {
     fn deref_mut(&mut self) -> &mut [T] {
         &mut self.0
-    }
-}
-
-impl<T> IntoIterator for Vec<T> {
-    type Item = T;
-
-    type IntoIter = alloc::vec::IntoIter<T>;
-
-    fn into_iter(self) -> alloc::vec::IntoIter<T> {
-        self.0.into_iter()
     }
 }
 

@@ -101,8 +101,7 @@ pub fn transpose<'a, T: Copy + Send + Sync>(
     let plan = TransposePlan::new(width, height, parts, cfg!(not(feature = "checked")));
     // With the feature `checked`, a share is the columns of a part, and those of the last part may be fewer.
     let share = if cfg!(feature = "checked") && plan.count() > 0 { plan.region(0).cols() * height } else { 0 };
-    let cells = SliceItems::in_shares(output, share);
-    TransposeParts(PartsToRun::of(cells, plan, input))
+    TransposeParts(PartsToRun::of(SliceItems::in_shares(output, share), plan, input))
 }
 
 /// Cuts [`reverse_slice_index_bits`](crate::reverse_slice_index_bits) into about `parts` parts, with the feature `checked` into
