@@ -13,7 +13,7 @@ use crate::lines::Lines;
 use p3_util_fast::bulk::{Ahead, Blocked};
 use p3_util_fast::strips::UNIT;
 use p3_util_fast::ways::{
-    Blocks, Columns, InCols, InRows, PutColumn, PutRegion, ShortColumns, put_as_block,
+    Blocks, Columns, InCols, InRows, Outlined, PutColumn, PutRegion, ShortColumns, put_as_block,
 };
 use p3_util_kernels::places::{Cells, Source};
 use p3_util_kernels::transpose::{Matrix, Region};
@@ -223,7 +223,7 @@ fn put_region<M: Output, R: Ahead<Item = M::Item> + Copy>(
     if M::TESTS_INDICES {
         let blocks = Blocks::<EIGHT_ROWS, _>(Blocks::<4, _>(Blocks::<2, _>(Blocks::<1, _>(Columns))));
         if has_eight_rows(size, M::SIDE, width, height) {
-            return columns_at_a_time(blocks).put(cells, matrix, region);
+            return Outlined(columns_at_a_time(blocks)).put(cells, matrix, region);
         }
         return columns_at_a_time(Blocks::<16, _>(blocks)).put(cells, matrix, region);
     }

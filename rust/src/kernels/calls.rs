@@ -11,7 +11,9 @@ use crate::kernels::lines::Lines;
 use crate::kernels::places::{Cells, Source};
 use crate::kernels::strips::UNIT;
 use crate::kernels::transpose::{Matrix, Region};
-use crate::kernels::ways::{Blocks, Columns, InCols, InRows, PutColumn, PutRegion, ShortColumns, put_as_block};
+use crate::kernels::ways::{
+    Blocks, Columns, InCols, InRows, Outlined, PutColumn, PutRegion, ShortColumns, put_as_block,
+};
 #[cfg(target_pointer_width = "32")]
 use crate::width::Index as usize;
 
@@ -161,7 +163,7 @@ fn put_region<M: Output, R: Ahead<Item = M::Item> + Copy>(cells: M, matrix: Matr
     if M::TESTS_INDICES {
         let blocks = Blocks::<EIGHT_ROWS, _>(Blocks::<4, _>(Blocks::<2, _>(Blocks::<1, _>(Columns))));
         if has_eight_rows(size, M::SIDE, width, height) {
-            return columns_at_a_time(blocks).put(cells, matrix, region);
+            return Outlined(columns_at_a_time(blocks)).put(cells, matrix, region);
         }
         return columns_at_a_time(Blocks::<16, _>(blocks)).put(cells, matrix, region);
     }
