@@ -3,7 +3,7 @@
 use crate::kernels::bits;
 use crate::width::Index;
 
-// The functions of which each number is a `usize`.
+// The same functions on a `usize` of this system.
 #[cfg(target_pointer_width = "64")]
 pub use crate::kernels::bits as proved;
 #[cfg(target_pointer_width = "32")]

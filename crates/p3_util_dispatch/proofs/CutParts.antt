@@ -131,8 +131,15 @@ module _ (n i j : ℕ) (in_order : i ≤ j) (below : j < n) where
 
 rank-alone : (n i j k l : ℕ) → i ≤ j → j < n → k ≤ l → l < n → rank n i j ≡ rank n k l → (i ≡ k) × (j ≡ l)
 rank-alone n i j k l ij jn kl ln same =
-    grind (arith, nat_tests, same, same_from_place (j - i) i (l - k) k n, same_from_place (j - i) i (n - (l - k)) l n, same_from_place (n - (j - i)) j (l - k) k n,
-    same_from_place (n - (j - i)) j (n - (l - k)) l n)
+    grind (
+      arith,
+      nat_tests,
+      same,
+      same_from_place (j - i) i (l - k) k n,
+      same_from_place (j - i) i (n - (l - k)) l n,
+      same_from_place (n - (j - i)) j (l - k) k n,
+      same_from_place (n - (j - i)) j (n - (l - k)) l n,
+    )
 
 -- no two pairs have the same number
 pub pair-alone : (n i j k l : ℕ) → i ≤ j → j < n → k ≤ l → l < n → number_of_pair n i j ≡ number_of_pair n k l → (i ≡ k) × (j ≡ l)

@@ -221,7 +221,9 @@ fn put_region<M: Output, R: Ahead<Item = M::Item> + Copy>(
         return columns.put(cells, matrix, region);
     }
     if M::TESTS_INDICES {
-        let blocks = Blocks::<EIGHT_ROWS, _>(Blocks::<4, _>(Blocks::<2, _>(Blocks::<1, _>(Columns))));
+        let blocks = Blocks::<EIGHT_ROWS, _>(Blocks::<4, _>(Blocks::<2, _>(Blocks::<1, _>(
+            Columns,
+        ))));
         if has_eight_rows(size, M::SIDE, width, height) {
             return Outlined(columns_at_a_time(blocks)).put(cells, matrix, region);
         }

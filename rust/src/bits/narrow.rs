@@ -1,4 +1,5 @@
-//! The calls on a `usize` of 32 bits, in place of those of `kernels::bits`, which are about numbers of 64 bits.
+//! The calls on a `usize` of 32 bits, in place of those of `kernels::bits`, which are about numbers of 64 bits. `bits.rs` converts
+//! the numbers of the strict logarithms itself.
 
 use crate::kernels::bits as proved;
 pub use proved::{assert_clone, branch_hint, indices_arr, log2_ceil_u64};
@@ -43,6 +44,7 @@ pub(crate) const fn reverse_bits(x: usize, n: usize) -> usize {
     proved::reverse_bits(x as u64, n) as usize
 }
 
+/// A remainder of 0 stands for all 32 digits.
 pub(crate) const fn reverse_bits_len(x: usize, bit_len: usize) -> usize {
     proved::reverse_bits_len(x as u64, (bit_len as u64 + 31) % 32 + 1) as usize
 }

@@ -1,5 +1,5 @@
 //! Kernels for each type of item, and none for each size: with the feature `checked` and on systems of 32 bits. Only `slices.rs`
-//! uses this file.
+//! and `parts.rs` use this file.
 
 pub(super) use super::{reverse_holder as reverse, reverse_rows_of_holder as reverse_rows};
 pub(super) use crate::kernels::calls::transpose_whole;

@@ -1,4 +1,5 @@
-//! Kernels that are compiled for each size of item, and not for each type. Only `slices.rs` uses this file.
+//! Kernels that are compiled for each size of item, and not for each type. Only `slices.rs` and `parts.rs` use this
+//! file.
 //!
 //! A kernel never looks at an item, so an instance only has to know how many bytes an item has. Those for the sizes in the
 //! table of `by_size!`, and for rows, are compiled in this package, because the functions of a `ByteList` are not generic and

@@ -7,6 +7,8 @@ use super::registers::{self, Widest};
 
 /// Whether this processor moves unaligned bytes as fast as aligned ones. Otherwise each item is moved as its type says. On
 /// some systems, rustc moves unaligned bytes of aarch64 one by one. `rust/test` makes a build in which it is false.
+///
+/// `registers::USES_REGISTERS` relies on it that no third processor does.
 pub(crate) const MOVES_BYTES: bool = cfg!(not(unaligned_is_slow))
     && (cfg!(target_arch = "x86_64")
         || cfg!(target_arch = "aarch64")
@@ -45,7 +47,8 @@ pub(super) unsafe fn write_item<T>(to: *mut T, item: T) {
     }
 }
 
-/// Writes the parts of 16 bytes. Within [`write_item`], this would slow down the reversal of 64 items of 3 or 5 bytes.
+/// Writes the parts of 16 bytes that the item has. Within [`write_item`], this would slow down the reversal of 64 items of 3 or
+/// 5 bytes.
 #[inline(always)]
 unsafe fn write_registers<T>(from: *mut u8, to: *mut u8) {
     // With `opt-level = "s"`, a loop would not be unrolled.
