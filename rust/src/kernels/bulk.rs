@@ -13,7 +13,6 @@ use crate::width::Index as usize;
 mod slices;
 
 use crate::kernels::places::{Cells, Places, Source, len_fits};
-use crate::kernels::registers::tiles::exchange_singly;
 
 /// A block of a matrix, and where its transpose goes.
 ///
@@ -81,6 +80,33 @@ pub(crate) trait Tiled: Places {
         len_fits(self.len());
         for t in 0..len {
             self.exchange(i + t, j + t);
+        }
+    }
+}
+
+/// Exchanges two tiles item by item, in squares of 4 by 4.
+#[inline(always)]
+pub(crate) fn exchange_singly<M: Places>(list: &mut M, x: [usize; 8], y: [usize; 8]) {
+    exchange_square(list, x, y, 0, 0);
+    exchange_square(list, x, y, 0, 4);
+    exchange_square(list, x, y, 4, 0);
+    exchange_square(list, x, y, 4, 4);
+}
+
+/// Exchanges the square of 4 by 4 items of a tile from row `row` and column `col` on, with its mirror image in another
+/// tile: by its diagonals, of which all but the first go on at the other side of the square. The rows of a tile often
+/// begin at distances of whole pages. A processor compares the last 12 bits of addresses first, so a load from one row
+/// waits for a store to the same column of another one. Items of a diagonal are in different rows and columns.
+#[inline(always)]
+fn exchange_square<M: Places>(list: &mut M, x: [usize; 8], y: [usize; 8], row: usize, col: usize) {
+    let _len = list.len();
+    for d in 0..4 {
+        for r in 0..4 {
+            let c = (r + d) % 4;
+            list.exchange(
+                x[(row + r) as core::primitive::usize] + (col + c),
+                y[(col + c) as core::primitive::usize] + (row + r),
+            );
         }
     }
 }

@@ -2,9 +2,9 @@
 
 ghost use Rattle.std.specs.Prelude.{◌≡◌, ℕ, ◌+◌, ◌-◌, ◌*◌, ◌%◌, ◌^◌, ◌<◌, ◌≤◌, length, slice_index};
 ghost use Rattle.p3_util_fast.specs.Tiles.{AreTiles, IsTile, TileTurned, TilesExchanged};
-ghost use Rattle.p3_util_fast.specs.Registers.{IsSide, IsSquareOf, ItemsExchanged, RowsExchanged, RowsReached, SquaresTurned};
+ghost use Rattle.p3_util_fast.specs.Registers.{IsSide, RowsExchanged, RowsReached, SquaresTurned};
 
-use crate::bulk::Tiled;
+use crate::bulk::{Tiled, exchange_singly};
 use crate::registers::{Register, Runs, in_columns, in_rows, load_columns, store};
 use p3_util_kernels::places::Places;
 
@@ -136,38 +136,4 @@ fn turn_squares<T, D: Register<T>, M: Runs<T, D>>(list: &mut M, x: [usize; 8], s
     let tops = opposites(side, sum);
     let columns = load_columns(list, in_columns(x, tops));
     store(list, 8, in_rows(x, side, tops), columns);
-}
-
-/// Exchanges two tiles item by item, in squares of 4 by 4.
-#[inline(always)]
-pub(crate) fn exchange_singly<M: Places>(list: &mut M, x: [usize; 8], y: [usize; 8])
-    requires { AreTiles x y (length (M.items list.old)) }
-    ensures exchanged { TilesExchanged 64 x y (M.items list.old) (M.items list.new) }
-    ensures holder { M.same_holder 64 list.old list.new }
-{
-    exchange_square(list, x, y, 0, 0);
-    exchange_square(list, x, y, 0, 4);
-    exchange_square(list, x, y, 4, 0);
-    exchange_square(list, x, y, 4, 4);
-}
-
-/// Exchanges the square of 4 by 4 items of a tile from row `row` and column `col` on, with its mirror image in another
-/// tile: by its diagonals, of which all but the first go on at the other side of the square. The rows of a tile often
-/// begin at distances of whole pages. A processor compares the last 12 bits of addresses first, so a load from one row
-/// waits for a store to the same column of another one. Items of a diagonal are in different rows and columns.
-#[inline(always)]
-fn exchange_square<M: Places>(list: &mut M, x: [usize; 8], y: [usize; 8], row: usize, col: usize)
-    requires tiles { AreTiles x y (length (M.items list.old)) }
-    requires row { row + 4 ≤ 8 }
-    requires col { col + 4 ≤ 8 }
-    ensures exchanged { ItemsExchanged (IsSquareOf row col 16) x y (M.items list.old) (M.items list.new) }
-    ensures holder { M.same_holder 16 list.old list.new }
-{
-    let _len = list.len();
-    for d in 0..4 {
-        for r in 0..4 {
-            let c = (r + d) % 4;
-            list.exchange(x[row + r] + (col + c), y[col + c] + (row + r));
-        }
-    }
 }

@@ -1,6 +1,6 @@
 use Rattle.std.proofs.Common.{◌+◌, ◌*◌}
 use Rattle.p3_util_fast.specs.Registers.{IsSquareOf, ItemsExchanged}
-use Rattle.p3_util_fast.proofs.registers.tiles.exchange_square.Given as goal
+use Rattle.p3_util_fast.proofs.bulk.exchange_square.Given as goal
 
 -- the diagonals before d of the square are exchanged, and of diagonal d the items in rows before r
 abbrev pub invariant-loop-d : goal.invariant-loop-d

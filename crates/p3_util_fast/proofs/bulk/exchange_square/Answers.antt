@@ -1,7 +1,7 @@
 -- Each turn of the inner loop exchanges one more item of the square.
 use Rattle.std.proofs.Common.{refl, arith}
 use Rattle.p3_util_fast.proofs.RegistersSquares.{ItemsExchanged-more}
-use Rattle.p3_util_fast.proofs.registers.tiles.exchange_square.Goals as goal
+use Rattle.p3_util_fast.proofs.bulk.exchange_square.Goals as goal
 
 pub loop-r-preserved : goal.loop-r-preserved
 loop-r-preserved g c = record {

@@ -2,7 +2,7 @@
 use Rattle.std.proofs.Common.{arith}
 use Rattle.p3_util_fast.proofs.RegistersSquares.{TilesExchanged-squares}
 use Rattle.p3_util_fast.proofs.RegistersSteps.{four_times}
-use Rattle.p3_util_fast.proofs.registers.tiles.exchange_singly.Goals as goal
+use Rattle.p3_util_fast.proofs.bulk.exchange_singly.Goals as goal
 
 pub returns-clause-exchanged : goal.returns-clause-exchanged
 returns-clause-exchanged g c =
