@@ -225,6 +225,7 @@ fn put_region<M: Output, R: Ahead<Item = M::Item> + Copy>(
             Columns,
         ))));
         if has_eight_rows(size, M::SIDE, width, height) {
+            // Inlined too, this would enlarge the frame of a debug build.
             return Outlined(columns_at_a_time(blocks)).put(cells, matrix, region);
         }
         return columns_at_a_time(Blocks::<16, _>(blocks)).put(cells, matrix, region);

@@ -105,7 +105,8 @@ pub trait Tiled: Places {
     }
 }
 
-/// Exchanges two tiles item by item, in squares of 4 by 4.
+/// Exchanges two tiles item by item, in squares of 4 by 4. The rows of a tile often lie in one set of the first-level
+/// cache, which has room for the lines of a square and its mirror image.
 #[inline(always)]
 pub(crate) fn exchange_singly<M: Places>(list: &mut M, x: [usize; 8], y: [usize; 8])
     requires { AreTiles x y (length (M.items list.old)) }

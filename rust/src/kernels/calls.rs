@@ -163,6 +163,7 @@ fn put_region<M: Output, R: Ahead<Item = M::Item> + Copy>(cells: M, matrix: Matr
     if M::TESTS_INDICES {
         let blocks = Blocks::<EIGHT_ROWS, _>(Blocks::<4, _>(Blocks::<2, _>(Blocks::<1, _>(Columns))));
         if has_eight_rows(size, M::SIDE, width, height) {
+            // Inlined too, this would enlarge the frame of a debug build.
             return Outlined(columns_at_a_time(blocks)).put(cells, matrix, region);
         }
         return columns_at_a_time(Blocks::<16, _>(blocks)).put(cells, matrix, region);
